@@ -1,0 +1,13 @@
+pub mod Limits
+pub mod Octets
+pub mod Frame
+pub mod Read
+pub mod Answers
+pub mod Back
+pub mod Trip
+pub mod Sound
+pub mod Agreement
+pub mod Placed
+pub mod Scaling
+pub mod Held
+pub mod Svread

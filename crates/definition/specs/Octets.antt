@@ -1,0 +1,90 @@
+-- X.690 as it is written: the octets of a number, of a length, of an unsigned integer, of a tag with its length and content.
+use mathlib.Core.Path.{_≡_, refl, sym, ap, _∙_}
+use mathlib.Core.List.{List, [], _∷_, _++_}
+use mathlib.Core.Bool.{Bool, true, false, cond}
+use mathlib.Core.Logic.{_⊎_, inl, inr}
+use Prim.Native.Nat.{ℕ, zero, suc, _+_, _-_, _*_, _/_, _%_, _^_, _≤_, _<_}
+use native.Mathlib.Omega.{arith}
+use native.Mathlib.Decide.{decLt}
+use lib.ListN.{length, length-append}
+use lib.Dec.{ltb}
+use borrow.Author.Tests.{lt-ltb, le-ltb}
+
+-- "Multi-octet fields are big-endian": the k low octets of n, highest first
+unfoldable pub octets : ℕ → ℕ → List ℕ
+octets zero n = []
+octets (suc k) n = octets k (n / 256) ++ (n % 256 ∷ [])
+
+-- X.690 8.1.3.5, the long form; "below 256 after 81; below 65,535 two after 82; then three after 83": how many octets follow
+unfoldable pub lengthMore : ℕ → ℕ
+lengthMore n = cond (ltb n 256) 1 (cond (ltb n 65535) 2 3)
+
+-- X.690 8.1.3, definite form; "Written lengths: below 128 one octet; below 256 after 81; below 65,535 two after 82; then
+-- three after 83"
+unfoldable pub lengthOctets : ℕ → List ℕ
+lengthOctets n = cond (ltb n 128) (n ∷ []) ((0x80 + lengthMore n) ∷ octets (lengthMore n) n)
+
+-- X.690 8.3; "Written integers are unsigned and shortest, with 00 in front where the first octet would be 80 or more": the
+-- number of content octets, of a number of 32 bits
+unfoldable pub uintSize : ℕ → ℕ
+uintSize n = cond (ltb n 128) 1 (cond (ltb n 32768) 2 (cond (ltb n 8388608) 3 (cond (ltb n 2147483648) 4 5)))
+
+-- and the content octets themselves
+unfoldable pub uintOctets : ℕ → List ℕ
+uintOctets n = octets (uintSize n) n
+
+-- X.690 8.1.1: identifier octet (the tag), length octets, content octets
+unfoldable pub tlv : ℕ → List ℕ → List ℕ
+tlv tag content = (tag ∷ lengthOctets (length content)) ++ content
+
+-- ---- laws
+
+pub lt-or-ge : (a b : ℕ) → (a < b) ⊎ (b ≤ a)
+lt-or-ge a b = go (decLt a b)
+  where
+    go : Dec (a < b) → (a < b) ⊎ (b ≤ a)
+    go (yes h) = inl h
+    go (no h) = inr (omega arith)
+
+pub length-short : (n : ℕ) → n < 128 → lengthOctets n ≡ n ∷ []
+unfolding lengthOctets
+length-short n h = simp (lt-ltb n 128 h)
+
+pub length-long : (n : ℕ) → 128 ≤ n → lengthOctets n ≡ (0x80 + lengthMore n) ∷ octets (lengthMore n) n
+unfolding lengthOctets
+length-long n h = simp (le-ltb n 128 h)
+
+pub length-octets : (k n : ℕ) → length (octets k n) ≡ k
+unfolding octets
+length-octets zero n = refl
+length-octets (suc k) n = length-append (octets k (n / 256)) (n % 256 ∷ []) ∙ simp (length-octets k (n / 256)) (omega arith)
+
+pub lengthMore-le : (n : ℕ) → (1 ≤ lengthMore n) × (lengthMore n ≤ 3)
+unfolding lengthMore
+lengthMore-le n = go (ltb n 256) (ltb n 65535)
+  where
+    go : (a b : Bool) → (1 ≤ cond a 1 (cond b 2 3)) × (cond a 1 (cond b 2 3) ≤ 3)
+    go true true = omega arith
+    go true false = omega arith
+    go false true = omega arith
+    go false false = omega arith
+
+pub length-uintOctets : (n : ℕ) → length (uintOctets n) ≡ uintSize n
+unfolding uintOctets
+length-uintOctets n = length-octets (uintSize n) n
+
+pub uintSize-le : (n : ℕ) → (1 ≤ uintSize n) × (uintSize n ≤ 5)
+unfolding uintSize
+uintSize-le n = go (ltb n 128) (ltb n 32768) (ltb n 8388608) (ltb n 2147483648)
+  where
+    go : (a b d e : Bool) → (1 ≤ cond a 1 (cond b 2 (cond d 3 (cond e 4 5)))) × (cond a 1 (cond b 2 (cond d 3 (cond e 4 5))) ≤ 5)
+    go true b d e = omega arith
+    go false true d e = omega arith
+    go false false true e = omega arith
+    go false false false true = omega arith
+    go false false false false = omega arith
+
+-- content is shorter than its element
+pub tlv-le : (tag : ℕ) (xs : List ℕ) → length xs < length (tlv tag xs)
+unfolding tlv
+tlv-le tag xs = omega (arith, length-append (tag ∷ lengthOctets (length xs)) xs)

@@ -1,0 +1,1 @@
+// No code: the definitions of specs/, which the contracts of the other crates cite.
