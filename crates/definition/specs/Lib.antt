@@ -11,3 +11,4 @@ pub mod Placed
 pub mod Scaling
 pub mod Held
 pub mod Svread
+pub mod Table

@@ -9,6 +9,7 @@ use native.Mathlib.Decide.{decLt}
 use lib.ListN.{length, length-append}
 use lib.Dec.{ltb}
 use borrow.Author.Tests.{lt-ltb, le-ltb}
+use Rattle.definition.specs.Limits.{twoOctets}
 
 -- "Multi-octet fields are big-endian": the k low octets of n, highest first
 unfoldable pub octets : ℕ → ℕ → List ℕ
@@ -17,7 +18,7 @@ octets (suc k) n = octets k (n / 256) ++ (n % 256 ∷ [])
 
 -- X.690 8.1.3.5, the long form; "below 256 after 81; below 65,535 two after 82; then three after 83": how many octets follow
 unfoldable pub lengthMore : ℕ → ℕ
-lengthMore n = cond (ltb n 256) 1 (cond (ltb n 65535) 2 3)
+lengthMore n = cond (ltb n 256) 1 (cond (ltb n twoOctets) 2 3)
 
 -- X.690 8.1.3, definite form; "Written lengths: below 128 one octet; below 256 after 81; below 65,535 two after 82; then
 -- three after 83"
@@ -59,15 +60,14 @@ unfolding octets
 length-octets zero n = refl
 length-octets (suc k) n = length-append (octets k (n / 256)) (n % 256 ∷ []) ∙ simp (length-octets k (n / 256)) (omega arith)
 
+-- a choice of two numbers is from the one to the other
+choice : (a : Bool) (x y low high : ℕ) → (low ≤ x) × (x ≤ high) → (low ≤ y) × (y ≤ high) → (low ≤ cond a x y) × (cond a x y ≤ high)
+choice true x y low high h g = h
+choice false x y low high h g = g
+
 pub lengthMore-le : (n : ℕ) → (1 ≤ lengthMore n) × (lengthMore n ≤ 3)
 unfolding lengthMore
-lengthMore-le n = go (ltb n 256) (ltb n 65535)
-  where
-    go : (a b : Bool) → (1 ≤ cond a 1 (cond b 2 3)) × (cond a 1 (cond b 2 3) ≤ 3)
-    go true true = omega arith
-    go true false = omega arith
-    go false true = omega arith
-    go false false = omega arith
+lengthMore-le n = choice (ltb n 256) 1 _ 1 3 (omega arith) (choice (ltb n twoOctets) 2 3 1 3 (omega arith) (omega arith))
 
 pub length-uintOctets : (n : ℕ) → length (uintOctets n) ≡ uintSize n
 unfolding uintOctets
@@ -75,14 +75,11 @@ length-uintOctets n = length-octets (uintSize n) n
 
 pub uintSize-le : (n : ℕ) → (1 ≤ uintSize n) × (uintSize n ≤ 5)
 unfolding uintSize
-uintSize-le n = go (ltb n 128) (ltb n 32768) (ltb n 8388608) (ltb n 2147483648)
-  where
-    go : (a b d e : Bool) → (1 ≤ cond a 1 (cond b 2 (cond d 3 (cond e 4 5)))) × (cond a 1 (cond b 2 (cond d 3 (cond e 4 5))) ≤ 5)
-    go true b d e = omega arith
-    go false true d e = omega arith
-    go false false true e = omega arith
-    go false false false true = omega arith
-    go false false false false = omega arith
+uintSize-le n =
+    choice (ltb n 128) 1 _ 1 5 (omega arith)
+    (choice (ltb n 32768) 2 _ 1 5 (omega arith)
+    (choice (ltb n 8388608) 3 _ 1 5 (omega arith)
+    (choice (ltb n 2147483648) 4 5 1 5 (omega arith) (omega arith))))
 
 -- content is shorter than its element
 pub tlv-le : (tag : ℕ) (xs : List ℕ) → length xs < length (tlv tag xs)
