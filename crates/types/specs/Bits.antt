@@ -1,7 +1,7 @@
 -- Bits of a number, and numbers made of bits, with their laws over the bit's place.
 use mathlib.Core.Path.{_≡_, refl, sym, ap, _∙_}
 use mathlib.Core.List.{List, [], _∷_}
-use mathlib.Core.Bool.{Bool, true, false, not, _&&_}
+use mathlib.Core.Bool.{Bool, true, false, not, _&&_, and-true, and-false}
 use Prim.Native.Nat.{ℕ, zero, suc, _+_, _*_, _/_, _%_, _^_, _<_}
 use native.Mathlib.Nat.{add-zero, add-suc, suc-add}
 use native.Mathlib.Numerals.{one-add}
@@ -62,6 +62,7 @@ weight-below : (k n : ℕ) (b : Bool) → n < 2 ^ k → n + weight k b < 2 ^ suc
 weight-below k n true h = omega arith
 weight-below k n false h = omega arith
 
+-- l bits from bit k on, above a number below 2 ^ k, stay below 2 ^ (k + length l)
 pub bits-below : (l : List Bool) (k n : ℕ) → n < 2 ^ k → withBits n k l < 2 ^ (k + length l)
 unfolding withBits
 bits-below [] k n h = rw add-zero h
@@ -86,8 +87,8 @@ bits-apart (a ∷ l) (b ∷ r) k n m s h g e =
     (j .0, cc)
 
 weight-zero : (k n : ℕ) (b : Bool) → eqb (n + weight k b) 0 ≡ (eqb n 0 && not b)
-weight-zero k n false = rw (add-zero n) (sym (mathlib.Core.Bool.and-true (eqb n 0)))
-weight-zero k n true = ne-eqb (n + 2 ^ k) 0 (λ e. omega (arith, pow-pos k)) ∙ sym (mathlib.Core.Bool.and-false (eqb n 0))
+weight-zero k n false = rw (add-zero n) (sym (and-true (eqb n 0)))
+weight-zero k n true = ne-eqb (n + 2 ^ k) 0 (λ e. omega (arith, pow-pos k)) ∙ sym (and-false (eqb n 0))
 
 -- a number made of bits is 0 where none is set
 pub bits-zero : (l : List Bool) (k n : ℕ) → eqb (withBits n k l) 0 ≡ andNone (eqb n 0) l

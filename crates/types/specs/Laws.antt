@@ -1,10 +1,10 @@
--- What is sent of a quality, a time quality and a timestamp is read back, and the other way round.
+-- Laws: the word of a quality and the octets of a time quality and a timestamp are read back as what they were made of, and
+-- what is read from a word or from octets makes them again. The bits go by the laws of Bits, each proved once over the place.
 use mathlib.Core.Path.{_≡_, refl, sym, ap, _∙_}
 use mathlib.Core.List.{List, [], _∷_, _++_}
 use mathlib.Core.Bool.{Bool, true, false}
 use Prim.Native.Nat.{ℕ, zero, suc, _+_, _*_, _/_, _%_, _^_, _<_, _≤_}
 use native.Mathlib.Nat.{mod-eq-of-lt, mod-mod}
-use native.Mathlib.Numerals.{add-one}
 use native.Mathlib.Omega.{arith}
 use lib.ListN.{length, getD, take, drop, length-drop, take-append-drop, drop-of-length-le}
 use lib.Seq.{drop-cons, drop-drop, take-suc, getD-drop}
@@ -22,6 +22,7 @@ use Rattle.types.specs.declared.types.Timestamp.{Timestamp}
 
 -- ---- validity
 
+-- a validity and its number determine each other
 pub validity-number : (v : Validity) → validityOf (numberOf v) ≡ v
 unfolding validityOf
 validity-number Good = refl
@@ -89,7 +90,7 @@ unfolding ofFlags flagsOf
 flags-back q = refl
 
 word-bits : (q : Quality) → wordOf q ≡ withBits (numberOf (q .validity)) 2 (flagsOf q)
-unfolding wordOf withBits flagsOf
+unfolding withBits flagsOf
 word-bits q = refl
 
 word-flags : (w : ℕ) → flagsOf (qualityOf w) ≡ bitsFrom 2 11 w
@@ -101,6 +102,7 @@ pub word-quality : (w : ℕ) → wordOf (qualityOf w) ≡ w % 2 ^ qualityBits
 unfolding qualityOf
 word-quality w = word-bits (qualityOf w) ∙ rw (number-validity (w % 4) (omega arith), word-flags w) (low-bits 11 2 w)
 
+-- the word of a quality has thirteen bits
 pub word-below : (q : Quality) → wordOf q < 2 ^ qualityBits
 unfolding flagsOf
 word-below q = rw (word-bits q) (bits-below (flagsOf q) 2 (numberOf (q .validity)) (number-below (q .validity)))
@@ -117,6 +119,7 @@ same-word p q e =
 pub quality-word : (q : Quality) → qualityOf (wordOf q) ≡ q
 quality-word q = same-word (qualityOf (wordOf q)) q (word-quality (wordOf q) ∙ mod-eq-of-lt (word-below q))
 
+-- the test of each field is the test of the word
 pub good-word : (q : Quality) → good q ≡ eqb (wordOf q) 0
 unfolding good flagsOf andNone
 good-word q = rw (word-bits q, bits-zero (flagsOf q) 2 (numberOf (q .validity)), ← good-number (q .validity))
@@ -148,21 +151,21 @@ unfoldable timeFlags : TimeQuality → List Bool
 timeFlags t = t .«clock_not_synchronized» ∷ t .«clock_failure» ∷ t .«leap_second_known» ∷ []
 
 octet-bits : (t : TimeQuality) → octetOf t ≡ withBits (t .«time_accuracy» % 2 ^ accuracySize) 5 (timeFlags t)
-unfolding octetOf withBits timeFlags
+unfolding withBits timeFlags
 octet-bits t = refl
 
 octet-flags : (b : ℕ) → timeFlags (timeQualityOf b) ≡ bitsFrom 5 3 b
-unfolding timeFlags timeQualityOf bitsFrom
+unfolding timeFlags bitsFrom
 octet-flags b = refl
 
 octet-low : (b : ℕ) → octetOf (timeQualityOf b) ≡ b % 256
-unfolding timeQualityOf
 octet-low b = octet-bits (timeQualityOf b) ∙ rw (mod-mod b 32, octet-flags b) (low-bits 3 5 b)
 
 -- the octet of an octet's time quality is the octet
 pub octet-time : (b : ℕ) → b < 256 → octetOf (timeQualityOf b) ≡ b
 octet-time b h = octet-low b ∙ mod-eq-of-lt h
 
+-- the octet of a time quality is an octet
 pub octet-below : (t : TimeQuality) → octetOf t < 256
 unfolding timeFlags
 octet-below t = rw (octet-bits t) (bits-below (timeFlags t) 5 (t .«time_accuracy» % 32) (omega arith))
@@ -176,12 +179,12 @@ same-octet s t e =
 
 -- the time quality of a time quality's octet is what the octet carries of it
 pub time-octet : (t : TimeQuality) → timeQualityOf (octetOf t) ≡ sentQuality t
-unfolding timeQualityOf
 time-octet t =
     let b = octetOf t in
     let e : sentQuality (timeQualityOf b) ≡ timeQualityOf b = rw (mod-mod b 32) in
     sym e ∙ same-octet (timeQualityOf b) t (octet-time b (octet-below t))
 
+-- all of it, where its time accuracy has five bits
 pub time-octet-all : (t : TimeQuality) → t .«time_accuracy» < 2 ^ accuracySize → timeQualityOf (octetOf t) ≡ t
 time-octet-all t h = time-octet t ∙ rw (mod-eq-of-lt h)
 
@@ -234,6 +237,7 @@ timestamp-octets t =
     let b : bigEndian (octetsOf t) 4 3 ≡ t .fraction % 2 ^ 24 = omega arith in
     rw (a, b, time-octet (t .quality))
 
+-- all of it, where its fields have the bits that are sent
 pub timestamp-octets-all : (t : Timestamp) → t .seconds < 2 ^ 32 → t .fraction < 2 ^ fractionSize → t .quality .«time_accuracy» < 2 ^ accuracySize → timestampOf (octetsOf t) ≡ t
 timestamp-octets-all t s f a = timestamp-octets t ∙ rw (mod-eq-of-lt s, mod-eq-of-lt f, mod-eq-of-lt a)
 
@@ -243,5 +247,6 @@ timestamp-octets-all t s f a = timestamp-octets t ∙ rw (mod-eq-of-lt s, mod-eq
 pub nanoseconds-one : nanosecondsOf 1 ≡ 59
 nanoseconds-one = refl
 
+-- a fraction is less than a second
 pub nanoseconds-below : (f : ℕ) → nanosecondsOf f < 1000000000
 nanoseconds-below f = omega arith

@@ -39,7 +39,7 @@ qualityOf w = record {
 }
 
 -- the word of a quality: the same bits, and no other
-unfoldable pub wordOf : Quality → ℕ
+abbrev pub wordOf : Quality → ℕ
 wordOf q =
     numberOf (q .validity)
     + weight 2 (q .overflow)

@@ -18,7 +18,7 @@ fractionSize = 24
 
 -- the time quality of an octet: from the highest bit down, leap second known, clock failure, clock not synchronized, and
 -- five bits of time accuracy
-unfoldable pub timeQualityOf : ℕ → TimeQuality
+abbrev pub timeQualityOf : ℕ → TimeQuality
 timeQualityOf b = record {
   «leap_second_known» = bit 7 b;
   «clock_failure» = bit 6 b;
@@ -27,7 +27,7 @@ timeQualityOf b = record {
 }
 
 -- the octet of a time quality: the same bits
-unfoldable pub octetOf : TimeQuality → ℕ
+abbrev pub octetOf : TimeQuality → ℕ
 octetOf t =
     t .«time_accuracy» % 2 ^ accuracySize
     + weight 5 (t .«clock_not_synchronized»)

@@ -1,4 +1,4 @@
-// Quality, time quality and timestamp.
+// Quality, time quality and timestamp of IEC 61850-7-2, from and to the bits that are sent.
 ghost use mathlib.Core.Path.{_≡_};
 ghost use Prim.Native.Nat.{_+_, _*_, _≤_};
 ghost use Rattle.types.specs.Bits.{pick};
@@ -6,7 +6,7 @@ ghost use Rattle.types.specs.Quality.{qualityOf, wordOf, good};
 ghost use Rattle.types.specs.Time.{timeQualityOf, octetOf, accuracyBitsOf, timestampOf, octetsOf, nanosecondsOf};
 use crate::enumerations::Validity;
 
-// Quality of a sampled value: its validity, and eleven flags.
+// Quality of a sampled value: its validity, bits 0 and 1 of the quality word, and eleven flags, bits 2 to 12 in this order.
 pub struct Quality {
     pub validity: Validity,
     pub overflow: bool,
@@ -90,7 +90,8 @@ fn flag(set: bool, weight: u32) -> u32
     if set { weight } else { 0 }
 }
 
-// Quality of a timestamp. Of time_accuracy five bits are sent.
+// Quality of a timestamp. From the highest bit of its octet down: the three flags in this order, and five bits of
+// time_accuracy.
 pub struct TimeQuality {
     pub leap_second_known: bool,
     pub clock_failure: bool,
@@ -98,7 +99,8 @@ pub struct TimeQuality {
     pub time_accuracy: u8,
 }
 
-// The number of significant bits of a fraction, or that none is given.
+// How many bits of a fraction are accurate; Absent stands for the None of the original: 26 to 30 are invalid, and 31 is
+// unspecified.
 pub enum AccuracyBits {
     Bits(u8),
     Absent,
@@ -128,7 +130,7 @@ impl TimeQuality {
             + flag(self.leap_second_known, 128)) as u8
     }
 
-    // The accuracy in bits, where it is at most 25.
+    // Time accuracy as a number of bits, 0 to 25.
     pub fn accuracy_bits(self) -> AccuracyBits
         ensures { λ r. ⌜ r ≡ accuracyBitsOf self ⌝ }
     {
@@ -141,16 +143,19 @@ impl TimeQuality {
     }
 }
 
-// A time: seconds since 1970, a fraction of a second in units of 2^-24, and its quality.
+// Seconds since 1 January 1970, a fraction of a second in units of 2^-24, and the quality of both.
 pub struct Timestamp {
     pub seconds: u32,
     pub fraction: u32,
     pub quality: TimeQuality,
 }
 
+// The octets of a timestamp: four of seconds, three of fraction, one of quality, each big-endian.
+pub type TimestampOctets = [u8; 8];
+
 impl Timestamp {
-    // The timestamp that eight octets give.
-    pub fn from_bytes(bytes: [u8; 8]) -> Timestamp
+    // The timestamp that octets give.
+    pub fn from_bytes(bytes: TimestampOctets) -> Timestamp
         ensures { λ r. ⌜ r ≡ timestampOf bytes ⌝ }
     {
         let seconds = from_be_bytes(bytes[0], bytes[1], bytes[2], bytes[3]);
@@ -163,8 +168,8 @@ impl Timestamp {
         }
     }
 
-    // Its eight octets. The low 24 bits of fraction count.
-    pub fn to_bytes(self) -> [u8; 8]
+    // Its octets. The low 24 bits of fraction count.
+    pub fn to_bytes(self) -> TimestampOctets
         ensures { λ r. ⌜ r ≡ octetsOf self ⌝ }
     {
         let s = self.seconds;

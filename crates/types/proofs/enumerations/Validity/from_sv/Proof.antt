@@ -1,28 +1,24 @@
+-- `Validity::from_sv` meets its contract: each arm knows the number, and of the last arm it is 3.
+-- Assumes nothing.
 use Prim.Native.Nat.{_%_}
 use mathlib.Core.Path.{_≡_}
 use native.Mathlib.Omega.{arith}
 use Rattle.types.specs.Quality.{validityOf}
 use Rattle.types.proofs.enumerations.Validity.from_sv.Statement.{statement}
 use Rattle.types.proofs.enumerations.Validity.from_sv.Tie as tie
-use Rattle.types.proofs.enumerations.Validity.from_sv.Reads as reads
-use Rattle.types.proofs.enumerations.Validity.from_sv.Lts as lts
 
--- src/enumerations.rt:16:5
 returns : tie.Need-returns
 unfolding validityOf
 returns c = rw (c .match .keys1)
 
--- src/enumerations.rt:16:5
 returns-2 : tie.Need-returns-2
 unfolding validityOf
 returns-2 c = rw (c .match .keys2)
 
--- src/enumerations.rt:16:5
 returns-3 : tie.Need-returns-3
 unfolding validityOf
 returns-3 c = rw (c .match .keys3)
 
--- src/enumerations.rt:16:5
 returns-4 : tie.Need-returns-4
 unfolding validityOf
 returns-4 c =

@@ -1,59 +1,45 @@
+-- `Timestamp::from_bytes` meets its contract: the numbers are those that `from_be_bytes` ensures.
+-- Assumes nothing.
 use borrow.Author.Needs.{needs}
 use mathlib.Core.Path.{_≡_}
 use native.Mathlib.Omega.{arith}
 use Rattle.types.specs.Time.{timestampOf, bigEndian}
 use Rattle.types.proofs.types.Timestamp.from_bytes.Statement.{statement}
 use Rattle.types.proofs.types.Timestamp.from_bytes.Tie as tie
-use Rattle.types.proofs.types.Timestamp.from_bytes.Reads as reads
-use Rattle.types.proofs.types.Timestamp.from_bytes.Lts as lts
-use Rattle.types.proofs.types.TimeQuality.from_byte.Reads as from-byte-reads
-use Rattle.types.proofs.types.from_be_bytes.Reads as from-be-bytes-reads
 
--- src/types.rt:158:37
 array-read-from-be-bytes : tie.Need-array-read-from-be-bytes
 array-read-from-be-bytes c = search needs
 
--- src/types.rt:158:47
 array-read-from-be-bytes-2 : tie.Need-array-read-from-be-bytes-2
 array-read-from-be-bytes-2 c = search needs
 
--- src/types.rt:158:57
 array-read-from-be-bytes-3 : tie.Need-array-read-from-be-bytes-3
 array-read-from-be-bytes-3 c = search needs
 
--- src/types.rt:158:67
 array-read-from-be-bytes-4 : tie.Need-array-read-from-be-bytes-4
 array-read-from-be-bytes-4 c = search needs
 
--- src/types.rt:158:13
 from-be-bytes-requires : tie.Need-from-be-bytes-requires
 from-be-bytes-requires c κs = search needs
 
--- src/types.rt:159:41
 array-read-from-be-bytes-5 : tie.Need-array-read-from-be-bytes-5
 array-read-from-be-bytes-5 c = search needs
 
--- src/types.rt:159:51
 array-read-from-be-bytes-6 : tie.Need-array-read-from-be-bytes-6
 array-read-from-be-bytes-6 c = search needs
 
--- src/types.rt:159:61
 array-read-from-be-bytes-7 : tie.Need-array-read-from-be-bytes-7
 array-read-from-be-bytes-7 c = search needs
 
--- src/types.rt:159:13
 from-be-bytes-requires-2 : tie.Need-from-be-bytes-requires-2
 from-be-bytes-requires-2 c κs = search needs
 
--- src/types.rt:160:46
 array-read-from-byte : tie.Need-array-read-from-byte
 array-read-from-byte c = search needs
 
--- src/types.rt:160:13
 from-byte-requires : tie.Need-from-byte-requires
 from-byte-requires c κs = search needs
 
--- src/types.rt:155:5
 returns : tie.Need-returns
 unfolding timestampOf bigEndian
 returns c =
