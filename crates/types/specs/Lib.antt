@@ -1,0 +1,4 @@
+pub mod Bits
+pub mod Quality
+pub mod Time
+pub mod Laws
