@@ -1,0 +1,1 @@
+pub fn requests() -> Vec<(u8, Vec<u8>)> { vec![] }
