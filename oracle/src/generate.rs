@@ -606,12 +606,13 @@ fn outside(random: &mut Random, mut header: Header, mut shape: Shape) -> (&'stat
     let mut made = pdu(random, shape);
     match class {
         "long text" => {
-            let long = vec![b'A'; random.pick(&[128, 129, 130, 255, 256, 300])];
-            if let Some(asdu) = made.asdus.last_mut() {
+            for asdu in &mut made.asdus {
+                let long = vec![b'A'; random.pick(&[128, 129, 130, 255, 256, 300])];
+                if random.percent(50) {
+                    asdu.dat_set = Some(long.clone());
+                }
                 if random.percent(50) {
                     asdu.sv_id = long;
-                } else {
-                    asdu.dat_set = Some(long);
                 }
             }
         }
@@ -636,7 +637,11 @@ fn outside(random: &mut Random, mut header: Header, mut shape: Shape) -> (&'stat
         "other noASDU, written" => made.no_asdu = number16(random),
         _ => (),
     }
-    let share = if class == "values out of range" { 100 } else { 5 };
+    let share = match class {
+        "values out of range" => 100,
+        "long PDU or 25 channels" => 0,
+        _ => 5,
+    };
     give_values(random, &mut made, share);
     (class, described(&header, &made))
 }
