@@ -16,7 +16,7 @@ pub const PANICKED: u8 = 2;
 pub const NOT_ASKED: u8 = 3;
 
 /// Every kind of request.
-pub const KINDS: &[u8] = b"fphieslurtqbdnwcv";
+pub const KINDS: &[u8] = b"fphieslurtqbdnwcvk";
 
 /// A refusal: number, place, and what the answer shows after them.
 struct Refused(u8, usize, Vec<u8>);
@@ -141,6 +141,7 @@ fn ask(kind: u8, request: &[u8]) -> Answer {
         b'w' => write_timestamp(request),
         b'c' => count(request),
         b'v' => value(request),
+        b'k' => le_92(request),
         _ => None,
     }
 }
@@ -334,11 +335,7 @@ fn timestamp(request: &mut Cursor) -> Answer {
 }
 
 fn nanoseconds(request: &mut Cursor) -> Answer {
-    let time = Timestamp {
-        seconds: 0,
-        fraction: request.u32()?,
-        quality: TimeQuality::default(),
-    };
+    let time = Timestamp { seconds: 0, fraction: request.u32()?, quality: TimeQuality::default() };
     request.end()?;
     Some(Ok(time.fraction_as_nanos().to_be_bytes().to_vec()))
 }
@@ -361,11 +358,7 @@ fn write_timestamp(request: &mut Cursor) -> Answer {
 }
 
 fn count(request: &mut Cursor) -> Answer {
-    let sample = Sample {
-        value: request.u32()?,
-        scale: request.u32()?,
-        quality: 0,
-    };
+    let sample = Sample { value: request.u32()?, scale: request.u32()?, quality: 0 };
     request.end()?;
     let mut buffer = [0u8; 8];
     Some(match encode_smv::private::sample(&mut buffer, 0, &sample.to_original()) {
@@ -384,4 +377,14 @@ fn value(request: &mut Cursor) -> Answer {
         Ok((_, samples)) => Ok(bits(samples[0].value).to_be_bytes().to_vec()),
         Err(error) => Err(error.into()),
     })
+}
+
+fn le_92(request: &mut Cursor) -> Answer {
+    request.end()?;
+    let config = SavDataSetConfig::le_92().config;
+    let mut out = vec![config.len() as u8];
+    for channel in &config {
+        out.extend(channel.scale_factor.to_bits().to_be_bytes());
+    }
+    Some(Ok(out))
 }

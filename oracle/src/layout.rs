@@ -288,7 +288,7 @@ impl Asdu {
             smp_rate: self.smp_rate,
             smp_mod: self.smp_mod,
             gm_identity: self.gm_identity,
-            all_data: self.samples.iter().map(Sample::to_original).collect(),
+            all_data: self.samples.iter().copied().map(Sample::to_original).collect(),
         })
     }
 
@@ -309,7 +309,7 @@ impl Asdu {
 }
 
 impl Sample {
-    pub fn to_original(&self) -> Value {
+    pub fn to_original(self) -> Value {
         Value::new(
             f32::from_bits(self.value),
             Quality::from_sv(self.quality),

@@ -7,6 +7,8 @@ mod generate;
 mod layout;
 mod original;
 mod record;
+// The original's own file: not to be formatted from here.
+#[rustfmt::skip]
 #[allow(dead_code, unused_imports)]
 mod types;
 
@@ -19,7 +21,8 @@ const USAGE: &str = "oracle                      document 01's cases
 oracle answer               answers the requests of standard input
 oracle generate SEED COUNT  makes requests
 oracle live SEED COUNT      makes requests and answers them
-oracle tally SEED COUNT     the same, counted by class and answer, and by panic site
+oracle tally SEED COUNT     the same, counted by kind, class and answer
+oracle sites                the panic sites that the requests of standard input reach
 oracle record               the recorded list
 oracle counts               every f32 at scale 1, written as a count";
 
@@ -31,6 +34,7 @@ fn main() -> ExitCode {
     let done = match words[..] {
         [] => cases::run(),
         ["answer"] => answer_lines(),
+        ["sites"] => sites(),
         ["record"] => write_lines(record::requests().into_iter(), true),
         ["counts"] => cases::counts(),
         [verb @ ("generate" | "live" | "tally"), seed, count] => {
@@ -103,10 +107,7 @@ fn put_line(line: &mut Vec<u8>, kind: u8, request: &[u8], answered: bool) {
     line.push(b'\n');
 }
 
-fn write_lines(
-    requests: impl Iterator<Item = (u8, Vec<u8>)>,
-    answered: bool,
-) -> io::Result<bool> {
+fn write_lines(requests: impl Iterator<Item = (u8, Vec<u8>)>, answered: bool) -> io::Result<bool> {
     let mut out = BufWriter::new(io::stdout().lock());
     let mut line = vec![];
     for (kind, request) in requests {
@@ -117,20 +118,21 @@ fn write_lines(
     Ok(true)
 }
 
-/// Requests, one a line; an answer that stands after one is passed over.
+/// A line of a request; an answer that stands after it is passed over.
+fn parse(text: &str) -> io::Result<(u8, Vec<u8>)> {
+    let mut words = text.split_ascii_whitespace();
+    let parsed = match (words.next().map(str::as_bytes), words.next()) {
+        (Some([kind]), Some(request)) => from_hex(request).map(|request| (*kind, request)),
+        _ => None,
+    };
+    parsed.ok_or_else(|| io::Error::other(format!("not a request: {text}")))
+}
+
 fn answer_lines() -> io::Result<bool> {
     let mut out = BufWriter::new(io::stdout().lock());
     let mut line = vec![];
     for text in io::stdin().lock().lines() {
-        let text = text?;
-        let mut words = text.split_ascii_whitespace();
-        let parsed = match (words.next().map(str::as_bytes), words.next()) {
-            (Some([kind]), Some(request)) => from_hex(request).map(|request| (*kind, request)),
-            _ => None,
-        };
-        let Some((kind, request)) = parsed else {
-            return Err(io::Error::other(format!("not a request: {text}")));
-        };
+        let (kind, request) = parse(&text?)?;
         put_line(&mut line, kind, &request, true);
         out.write_all(&line)?;
     }
@@ -138,33 +140,43 @@ fn answer_lines() -> io::Result<bool> {
     Ok(true)
 }
 
-/// Counts answers by kind, class and status, and panics by site.
+/// Counts panics by site and kind of request, each with the shortest request that reaches it.
+fn sites() -> io::Result<bool> {
+    let mut sites: BTreeMap<(String, u8), (usize, Vec<u8>)> = BTreeMap::new();
+    for text in io::stdin().lock().lines() {
+        let (kind, request) = parse(&text?)?;
+        if answer::answer(kind, &request)[0] == answer::PANICKED {
+            let site = sites.entry((answer::last_site(), kind)).or_default();
+            site.0 += 1;
+            if site.0 == 1 || request.len() < site.1.len() {
+                site.1 = request;
+            }
+        }
+    }
+    for ((site, kind), (count, request)) in &sites {
+        println!("{site}; {count}; {} {}", *kind as char, hex(request));
+    }
+    Ok(true)
+}
+
+/// Counts answers by kind, class and status.
 fn tally(requests: impl Iterator<Item = generate::Request>) -> io::Result<bool> {
     let mut classes: BTreeMap<(usize, &str), BTreeMap<String, usize>> = BTreeMap::new();
-    let mut sites: BTreeMap<(String, char), usize> = BTreeMap::new();
     for request in requests {
-        let answer = answer::answer(request.kind, &request.octets);
-        let status = match answer[..] {
+        let status = match answer::answer(request.kind, &request.octets)[..] {
             [answer::ACCEPTED, ..] => "answered".to_string(),
             [answer::REFUSED, number, ..] => format!("refused {number}"),
             [answer::PANICKED, kind] => format!("panicked {kind}"),
             _ => "not asked".to_string(),
         };
-        if status.starts_with("panicked") {
-            *sites.entry((answer::last_site(), request.kind as char)).or_default() += 1;
-        }
         let order = answer::KINDS.iter().position(|&kind| kind == request.kind);
         let class = (order.unwrap_or(0), request.class);
         *classes.entry(class).or_default().entry(status).or_default() += 1;
     }
-    let mut out = BufWriter::new(io::stdout().lock());
     for ((order, class), counts) in &classes {
-        let counts: Vec<String> = counts.iter().map(|(status, n)| format!("{status}: {n}")).collect();
-        writeln!(out, "{} {class}: {}", answer::KINDS[*order] as char, counts.join(", "))?;
+        let counts: Vec<String> =
+            counts.iter().map(|(status, n)| format!("{status}: {n}")).collect();
+        println!("{} {class}: {}", answer::KINDS[*order] as char, counts.join(", "));
     }
-    for ((site, kind), count) in &sites {
-        writeln!(out, "panic at {site} by {kind}: {count}")?;
-    }
-    out.flush()?;
     Ok(true)
 }

@@ -89,12 +89,7 @@ fn with_values(pdu: &Pdu) -> Pdu {
 }
 
 fn tagged() -> Header {
-    Header {
-        vlan: 1,
-        tpid: [0x81, 0x00],
-        tci: [0x60, 0x05],
-        ..frame_header()
-    }
+    Header { vlan: 1, tpid: [0x81, 0x00], tci: [0x60, 0x05], ..frame_header() }
 }
 
 fn one_asdu() -> Asdu {
@@ -114,11 +109,7 @@ fn full_asdu() -> Asdu {
 }
 
 fn full_pdu() -> Pdu {
-    Pdu {
-        simulation: true,
-        security: Some(vec![0xab]),
-        ..pdu_of(vec![full_asdu()])
-    }
+    Pdu { simulation: true, security: Some(vec![0xab]), ..pdu_of(vec![full_asdu()]) }
 }
 
 /// The full PDU's frame with one field altered.
@@ -153,7 +144,9 @@ fn with_content(field: Field, content: &[u8]) -> Vec<u8> {
 
 fn parts(list: &mut List) {
     for value in LENGTHS {
-        for (length, index) in [(0, 0), (1, 0), (2, 0), (3, 0), (4, 0), (5, 0), (7, 0), (5, 1), (7, 1)] {
+        for (length, index) in
+            [(0, 0), (1, 0), (2, 0), (3, 0), (4, 0), (5, 0), (7, 0), (5, 1), (7, 1)]
+        {
             list.add(b'l', write_length(value, length, index));
         }
     }
@@ -222,14 +215,32 @@ fn types(list: &mut List) {
         list.add(b'b', vec![byte]);
     }
     for fraction in [
-        0, 1, 2, 16, 17, 0x7f_ffff, 0x80_0000, 0x80_0001, 0xff_fffe, 0xff_ffff, 0x100_0000,
-        0x100_0001, 0x200_0000, 0x44b_82f9, 0x44b_82fa, 0x7fff_ffff, 0x8000_0000, 0xffff_ffff,
+        0,
+        1,
+        2,
+        16,
+        17,
+        0x7f_ffff,
+        0x80_0000,
+        0x80_0001,
+        0xff_fffe,
+        0xff_ffff,
+        0x100_0000,
+        0x100_0001,
+        0x200_0000,
+        0x44b_82f9,
+        0x44b_82fa,
+        0x7fff_ffff,
+        0x8000_0000,
+        0xffff_ffff,
     ] {
         let fraction = u32::to_be_bytes(fraction);
         list.add(b'n', fraction.to_vec());
         let time = [&[0x66, 0x1f, 0x2e, 0x3d][..], &fraction[1..], &[fraction[3]]].concat();
         list.add(b'd', time);
-        for (flags, accuracy) in [([0, 0, 1], 10), ([0, 1, 0], 25), ([1, 0, 0], 26), ([1, 1, 1], 31)] {
+        for (flags, accuracy) in
+            [([0, 0, 1], 10), ([0, 1, 0], 25), ([1, 0, 0], 26), ([1, 1, 1], 31)]
+        {
             let time = [&[0x66, 0x1f, 0x2e, 0x3d][..], &fraction, &flags, &[accuracy]].concat();
             list.add(b'w', time);
         }
@@ -244,10 +255,12 @@ fn types(list: &mut List) {
 // ---- values and counts ----
 
 fn scaling(list: &mut List) {
+    list.add(b'k', vec![]);
     for value in VALUES {
         list.add(b'c', floats(value.to_bits(), 1.0));
     }
-    for value in [0.0f32, -0.0, 1.0, 0.05, -123.45, 214_748.36, 214_748.38, f32::INFINITY, f32::NAN] {
+    for value in [0.0f32, -0.0, 1.0, 0.05, -123.45, 214_748.36, 214_748.38, f32::INFINITY, f32::NAN]
+    {
         for scale in SCALES {
             list.add(b'c', floats(value.to_bits(), scale));
         }
@@ -377,7 +390,8 @@ fn integers(list: &mut List) {
             list.frame(&with_content(field, content));
         }
     }
-    let numbers: &[&[u8]] = &[&[], &[0], &[2], &[9], &[0x80], &[0, 1], &[1, 0], &[0, 1, 0], &[0, 0xff, 0xff]];
+    let numbers: &[&[u8]] =
+        &[&[], &[0], &[2], &[9], &[0x80], &[0, 1], &[1, 0], &[0, 1, 0], &[0, 0xff, 0xff]];
     for content in numbers {
         list.frame(&with_content(NoAsdu, content));
     }
@@ -444,12 +458,7 @@ fn sizes(list: &mut List) {
     }
     for number in 0..=9u16 {
         let asdus: Vec<Asdu> = (0..number)
-            .map(|k| Asdu {
-                smp_cnt: 126 + k,
-                samples: vec![],
-                sv_id: vec![],
-                ..one_asdu()
-            })
+            .map(|k| Asdu { smp_cnt: 126 + k, samples: vec![], sv_id: vec![], ..one_asdu() })
             .collect();
         list.both(&frame_header(), &pdu_of(asdus));
     }
@@ -615,7 +624,9 @@ fn writing(list: &mut List) {
     for no_asdu in [0, 2, 8, 128, 65_535] {
         add(&header, &Pdu { no_asdu, ..pdu_of(vec![one(1.0, 1.0, 0)]) });
     }
-    for (vlan, tpid, tci) in [(2, [0x81, 0x00], [0, 0]), (3, [0, 0], [0x60, 0x05]), (1, [0x88, 0xa8], [0, 5])] {
+    for (vlan, tpid, tci) in
+        [(2, [0x81, 0x00], [0, 0]), (3, [0, 0], [0x60, 0x05]), (1, [0x88, 0xa8], [0, 5])]
+    {
         add(&Header { vlan, tpid, tci, ..header.clone() }, &pdu_of(vec![one(1.0, 1.0, 0)]));
     }
     add(&Header { ether_type: [0x88, 0xb8], ..header.clone() }, &pdu_of(vec![one(1.0, 1.0, 0)]));
