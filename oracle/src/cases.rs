@@ -204,8 +204,9 @@ fn count_of(bits: u32) -> Option<i32> {
     }
 }
 
-/// Holds the original's count of every f32 at scale 1 against document 01's rule. Values of
-/// magnitude 2^33 and more, all refused alike, are taken one in 4,099.
+/// Holds the original's count of every f32 at scale 1 against document 01's rule. Of the values of
+/// magnitude 2^33 and more, all refused alike, one in 4,099 is taken, and the last 65,536 before
+/// the infinities.
 pub fn counts() -> io::Result<bool> {
     let (mut bits, mut counts, mut refused, mut differ) = (0u32, 0u64, 0u64, 0u64);
     loop {
@@ -222,7 +223,7 @@ pub fn counts() -> io::Result<bool> {
             differ += 1;
             println!("value {bits:08x}: said {}, answered {}", hex(&said), hex(&answered));
         }
-        let large = (0x5000_0000..0x7f7f_f000).contains(&(bits & 0x7fff_ffff));
+        let large = (0x5000_0000..0x7f7f_0000).contains(&(bits & 0x7fff_ffff));
         let Some(next) = bits.checked_add(if large { 4099 } else { 1 }) else { break };
         bits = next;
     }
