@@ -2,7 +2,7 @@
 
 use crate::answer::{answer, ACCEPTED, REFUSED};
 use crate::hex;
-use crate::layout::{Asdu, Header, Pdu, Sample};
+use crate::layout::{asked, described, Asdu, Header, Pdu, Sample};
 use std::io;
 
 pub const FRAME: [u8; 53] = [
@@ -38,13 +38,6 @@ pub fn frame_asdu(value: u32) -> Asdu {
 /// A PDU of these ASDUs.
 pub fn pdu_of(asdus: Vec<Asdu>) -> Pdu {
     Pdu { no_asdu: asdus.len() as u16, asdus, ..Pdu::default() }
-}
-
-pub fn described(header: &Header, pdu: &Pdu) -> Vec<u8> {
-    let mut out = vec![];
-    header.put(&mut out);
-    pdu.put(&mut out).expect("a short description");
-    out
 }
 
 /// A case, what document 01 says, the request, and how its answer is told.
@@ -100,7 +93,7 @@ pub fn floats(first: u32, scale: f32) -> Vec<u8> {
 
 /// A frame to read, with one channel at scale 1.
 pub fn one_channel(frame: &[u8]) -> Vec<u8> {
-    [&[1][..], &1f32.to_be_bytes(), frame].concat()
+    asked(&[1.0], frame)
 }
 
 pub fn all() -> Vec<Case> {

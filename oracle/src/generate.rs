@@ -1,7 +1,7 @@
 //! Random requests over all kinds and classes of input. The same seed gives the same requests.
 
 use crate::frame::{frame, header_size, length_octets, plain, Element, Field, Piece};
-use crate::layout::{bits, Asdu, Header, Pdu, Sample};
+use crate::layout::{asked, bits, described, Asdu, Header, Pdu, Sample};
 
 /// SplitMix64.
 pub struct Random(pub u64);
@@ -456,19 +456,9 @@ fn damage(class: &str, random: &mut Random, piece: &mut Piece) {
     }
 }
 
-fn put_scales(out: &mut Vec<u8>, scales: &[f32]) {
-    out.push(scales.len() as u8);
-    for scale in scales {
-        out.extend(scale.to_bits().to_be_bytes());
-    }
-}
-
 fn read_frame(random: &mut Random) -> (&'static str, Vec<u8>) {
     let made = made(random);
-    let mut out = vec![];
-    put_scales(&mut out, &scales(random, made.channels));
-    out.extend(made.octets);
-    (made.class, out)
+    (made.class, asked(&scales(random, made.channels), &made.octets))
 }
 
 fn read_pdu(random: &mut Random) -> (&'static str, Vec<u8>) {
@@ -505,8 +495,7 @@ fn read_pdu(random: &mut Random) -> (&'static str, Vec<u8>) {
         }
     }
     let mut out = start.to_be_bytes().to_vec();
-    put_scales(&mut out, &scales(random, made.channels));
-    out.extend(made.octets);
+    out.extend(asked(&scales(random, made.channels), &made.octets));
     (made.class, out)
 }
 
@@ -573,13 +562,6 @@ fn description(random: &mut Random) -> (&'static str, Vec<u8>) {
     }
     give_values(random, &mut made, 5);
     ("description", described(&header, &made))
-}
-
-fn described(header: &Header, pdu: &Pdu) -> Vec<u8> {
-    let mut out = vec![];
-    header.put(&mut out);
-    pdu.put(&mut out).expect("a short description");
-    out
 }
 
 /// Descriptions outside of document 01's domain.
@@ -736,7 +718,8 @@ fn time_fields(random: &mut Random) -> Vec<u8> {
     for _ in 0..3 {
         out.push(random.below(2) as u8);
     }
-    out.push(random.pick(&[0, 24, 25, 26, 30, 31, 32, 63, 255, random.0 as u8]));
+    let accuracies = [0, 24, 25, 26, 30, 31, 32, 63, 255, random.next() as u8];
+    out.push(random.pick(&accuracies));
     out
 }
 

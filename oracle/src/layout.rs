@@ -107,6 +107,24 @@ impl Asdu {
     }
 }
 
+/// A description as a request has it.
+pub fn described(header: &Header, pdu: &Pdu) -> Vec<u8> {
+    let mut out = vec![];
+    header.put(&mut out);
+    pdu.put(&mut out).expect("a short description");
+    out
+}
+
+/// A number of channels with their scale factors, then octets, as a request has them.
+pub fn asked(scales: &[f32], octets: &[u8]) -> Vec<u8> {
+    let mut out = vec![scales.len() as u8];
+    for scale in scales {
+        out.extend(scale.to_bits().to_be_bytes());
+    }
+    out.extend(octets);
+    out
+}
+
 // ---- reading the layout: `None` where the octets end too soon or a mark is none ----
 
 pub struct Cursor<'a>(pub &'a [u8]);

@@ -2,14 +2,13 @@
 //! document 01 by frames as small as can be.
 
 use crate::cases::{
-    self, described, floats, frame_asdu, frame_header, one_channel, pdu_of, read_u16, write_u16,
-    FRAME,
+    self, floats, frame_asdu, frame_header, one_channel, pdu_of, read_u16, write_u16, FRAME,
 };
 use crate::frame::{self, frame, header_size, plain, Element, Field};
 use crate::generate::{
     self, Random, COUNTS, FIRST_LENGTH_OCTETS, LENGTHS, SCALES, U16S, U32S, VALUES,
 };
-use crate::layout::{Asdu, Header, Pdu, Sample};
+use crate::layout::{asked, described, Asdu, Header, Pdu, Sample};
 use std::collections::HashSet;
 
 /// Requests in order, each once.
@@ -62,16 +61,6 @@ pub fn requests() -> Vec<(u8, Vec<u8>)> {
     writing(&mut list);
     random(&mut list);
     list.requests
-}
-
-/// Scale factors in front of octets.
-fn asked(scales: &[f32], octets: &[u8]) -> Vec<u8> {
-    let mut out = vec![scales.len() as u8];
-    for scale in scales {
-        out.extend(scale.to_bits().to_be_bytes());
-    }
-    out.extend(octets);
-    out
 }
 
 fn started(start: u64, octets: &[u8]) -> Vec<u8> {
