@@ -198,7 +198,7 @@ fn count_of(bits: u32) -> Option<i32> {
 }
 
 /// Holds the original's count of every f32 at scale 1 against document 01's rule. Of the values of
-/// magnitude 2^33 and more, all refused alike, one in 4,099 is taken, and the last 65,536 before
+/// magnitude 2^33 and more, all refused alike, one in 4,099 is taken, and the last 60,000 before
 /// the infinities.
 pub fn counts() -> io::Result<bool> {
     let (mut bits, mut counts, mut refused, mut differ) = (0u32, 0u64, 0u64, 0u64);
