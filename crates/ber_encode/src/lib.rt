@@ -10,7 +10,7 @@ ghost use Rattle.definition.specs.Octets.{octets, lengthMore, lengthOctets, uin
 ghost use Rattle.definition.specs.Held.{heldOctets};
 ghost use Rattle.definition.specs.Answers.{encodeTagLength, encodeBer, leaves};
 ghost use Rattle.ber_encode.specs.Put.{Wrote};
-ghost use Rattle.ber_encode.specs.Size.{lengthSize};
+ghost use Rattle.ber_encode.specs.Size.{lengthSize, tlvSize};
 ghost use Rattle.ber_encode.specs.Told.{told, refusedAs};
 
 // A length below this can be written.
@@ -44,6 +44,14 @@ pub fn unsigned_integer_length(value: u32) -> usize
     ensures { λ r. ⌜ r ≡ uintSize value ⌝ }
 {
     ((32 - u32::leading_zeros(value)) / 8 + 1) as usize
+}
+
+// How many octets an element is written in: tag, length and n octets of content.
+pub fn tlv_size(n: usize) -> usize
+    requires { ⌜ n < lengthLimit ⌝ }
+    ensures { λ r. ⌜ r ≡ tlvSize n ⌝ }
+{
+    1 + size_length(n) + n
 }
 
 // The k low octets of v, highest first.
