@@ -1,0 +1,3 @@
+pub mod Over
+pub mod Samples
+pub mod Asdus
