@@ -1,3 +1,4 @@
 pub mod Over
 pub mod Samples
 pub mod Asdus
+pub mod Told
