@@ -2,3 +2,5 @@ pub mod Over
 pub mod Samples
 pub mod Asdus
 pub mod Told
+pub mod Pdu
+pub mod Frame
