@@ -8,7 +8,7 @@ use native.Mathlib.Omega.{arith}
 use native.Mathlib.Nat.{add-zero}
 use lib.ListN.{length, getD, take, drop, replicate, List·getD-eq-default}
 use lib.Seq.{getD-drop, drop-cons}
-use lib.Dec.{leb, ltb, eqb}
+use lib.Dec.{leb, ltb, eqb, lit<}
 use borrow.Author.Tests.{le-leb, lt-leb, le-ltb, lt-ltb, eq-eqb, ne-eqb, eqb-true, eqb-false}
 use Rattle.definition.specs.Limits.{smvEtherType, vlanTpid, endsTooSoon}
 use Rattle.definition.specs.Frame.{and}
@@ -18,6 +18,7 @@ use Rattle.rt_services.specs.declared.Vlan.{Vlan}
 use Rattle.rt_services.specs.declared.Vlan.the-variants as vlan
 use Rattle.rt_services.specs.declared.Refusal.{Refusal}
 use Rattle.rt_services.specs.declared.EthernetHeader.{EthernetHeader}
+use Rattle.ber_decode.specs.Cases.{Bytes}
 use Rattle.ber_decode.specs.declared.Cursor.{Cursor}
 use Rattle.ethernet_header.specs.declared.HeaderRead.{HeaderRead}
 use Rattle.ethernet_header.specs.declared.HeaderEnd.{HeaderEnd}
@@ -40,9 +41,9 @@ abbrev pub headerRefusal : HeaderEnd → Refusal
 headerRefusal (Refused r) = r
 headerRefusal (Next c) = record { number = 0; place = 0 }
 
--- whether two octets stand at a place, and their number is this
-unfoldable pub pairAt : List ℕ → ℕ → ℕ → Bool
-pairAt s at v = and (leb (at + 2) (length s)) (eqb (beAt s at 2) v)
+-- whether the two octets at a place are a and b
+unfoldable pub pairAt : List ℕ → ℕ → ℕ → ℕ → Bool
+pairAt s at a b = and (leb (at + 2) (length s)) (and (eqb (getD s at 0) a) (eqb (getD s (at + 1) 0) b))
 
 -- whether the octet at a place has its first bit set
 abbrev pub firstBit : List ℕ → ℕ → Bool
@@ -65,25 +66,31 @@ two : (s : List ℕ) (at : ℕ) → beAt s at 2 ≡ getD s at 0 * 256 + getD s (
 unfolding beAt
 two s at = let z : at + 0 ≡ at = omega arith in rw z (omega arith)
 
--- two octets are the same as two others where their numbers are
-module _ (s p : List ℕ) (at : ℕ) where
-  pub pair-short : (v : ℕ) → length s < at + 2 → pairAt s at v ≡ false
+module _ (s : List ℕ) (at a b : ℕ) where
+  pub pair-short : length s < at + 2 → pairAt s at a b ≡ false
   unfolding pairAt and
-  pair-short v h = rw (lt-leb (at + 2) (length s))
+  pair-short h = rw (lt-leb (at + 2) (length s))
 
-  module _ (h : at + 2 ≤ length s) (s-byte : getD s (at + 1) 0 < 256) (p-byte : getD p 1 0 < 256) where
-    pub pair-first : (getD s at 0 ≡ getD p 0 0 → ⊥) → pairAt s at (beAt p 0 2) ≡ false
-    unfolding pairAt and
-    pair-first f =
-        let g : beAt s at 2 ≡ beAt p 0 2 → ⊥ = λ e. f (omega (arith, two s at, two p 0)) in
-        rw (le-leb (at + 2) (length s)) (ne-eqb (beAt s at 2) (beAt p 0 2) g)
+  pub pair-first : at + 2 ≤ length s → (getD s at 0 ≡ a → ⊥) → pairAt s at a b ≡ false
+  unfolding pairAt and
+  pair-first h f = rw (le-leb (at + 2) (length s), ne-eqb (getD s at 0) a f)
 
-    pub pair-both : getD s at 0 ≡ getD p 0 0 → eqb (getD s (at + 1) 0) (getD p 1 0) ≡ pairAt s at (beAt p 0 2)
-    unfolding pairAt and
-    pair-both e =
-        let f : beAt s at 2 ≡ beAt p 0 2 → getD s (at + 1) 0 ≡ getD p 1 0 = λ f. omega (arith, two s at, two p 0) in
-        let g : getD s (at + 1) 0 ≡ getD p 1 0 → beAt s at 2 ≡ beAt p 0 2 = λ f. omega (arith, two s at, two p 0) in
-        rw (le-leb (at + 2) (length s)) (eqb-alike (getD s (at + 1) 0) (getD p 1 0) (beAt s at 2) (beAt p 0 2) g f)
+  pub pair-both : at + 2 ≤ length s → getD s at 0 ≡ a → pairAt s at a b ≡ eqb (getD s (at + 1) 0) b
+  unfolding pairAt and
+  pair-both h e = rw (le-leb (at + 2) (length s), eq-eqb (getD s at 0) a e)
+
+  -- two octets are a and b where their number is
+  pub pair-number : b < 256 → getD s (at + 1) 0 < 256 → pairAt s at a b ≡ and (leb (at + 2) (length s)) (eqb (beAt s at 2) (a * 256 + b))
+  unfolding pairAt and
+  pair-number h g = ap (and (leb (at + 2) (length s))) (go (eqb (getD s at 0) a) refl)
+    where
+      go : (t : Bool) → eqb (getD s at 0) a ≡ t → and t (eqb (getD s (at + 1) 0) b) ≡ eqb (beAt s at 2) (a * 256 + b)
+      go true e =
+          let k : getD s at 0 ≡ a = eqb-true _ _ e in
+          eqb-alike (getD s (at + 1) 0) b (beAt s at 2) (a * 256 + b) (λ f. omega (arith, two s at)) (λ f. omega (arith, two s at))
+      go false e =
+          let k : getD s at 0 ≡ a → ⊥ = eqb-false _ _ e in
+          sym (ne-eqb (beAt s at 2) (a * 256 + b) (λ f. k (omega (arith, two s at))))
 
 pub bit-none : (s : List ℕ) (at : ℕ) → length s ≤ at → firstBit s at ≡ false
 bit-none s at h = rw (List·getD-eq-default s 0 h)
@@ -105,6 +112,10 @@ pub six : (s : List ℕ) (at : ℕ) → at + 6 ≤ length s
     → getD s at 0 ∷ getD s (at + 1) 0 ∷ getD s (at + 2) 0 ∷ getD s (at + 3) 0 ∷ getD s (at + 4) 0 ∷ getD s (at + 5) 0 ∷ [] ≡ take 6 (drop at s)
 unfolding cells
 six s at h = sym (rw (add-zero at) at (cells-are s at 6 0 (omega arith)))
+
+pub vlan-back : (v : Vlan) → vlanOf (tagOf v) ≡ v
+vlan-back vlan.Untagged = refl
+vlan-back (vlan.Tagged tpid tci) = refl
 
 module _ (s : List ℕ) where
   pub header-tagged : tagged s ≡ true → headerAt s ≡ headerFrom s 16 (some (beAt s 12 2, beAt s 14 2))
@@ -131,13 +142,36 @@ module _ (s : List ℕ) where
     unfolding headerFrom
     from-yes h = rw (le-ltb (length s) (at + 6))
 
-  pub smv-tagged : tagged s ≡ true → isSmvFrame s ≡ pairAt s 16 smvEtherType
-  unfolding isSmvFrame pairAt
-  smv-tagged e = rw e
+  pub header-no : (at : ℕ) (v : Option (ℕ × ℕ)) → headerAt s ≡ headerFrom s at v → length s < at + 6 → headerRead (headerAt s) ≡ noHeader endsTooSoon (length s)
+  unfolding headerRead
+  header-no at v e h = rw (e, from-short at v h)
 
-  pub smv-untagged : tagged s ≡ false → isSmvFrame s ≡ pairAt s 12 smvEtherType
-  unfolding isSmvFrame pairAt
-  smv-untagged e = rw e
+  pub header-yes : (at : ℕ) (v : Vlan) → at + 6 ≤ length s → record {
+    outcome = Next (record { at = at + 10 });
+    header = record {
+      «dst_addr» = take 6 (drop 0 s);
+      «src_addr» = take 6 (drop 6 s);
+      vlan = v;
+      «ether_type» = beAt s at 2;
+      appid = beAt s (at + 2) 2;
+      length = beAt s (at + 4) 2;
+    };
+  } ≡ headerRead (headerFrom s at (tagOf v))
+  unfolding headerRead headerRecord
+  header-yes at v h = rw (from-yes at (tagOf v) h, vlan-back v)
+
+  module _ (bytes : Bytes s) where
+    pub tagged-is : pairAt s 12 0x81 0x00 ≡ tagged s
+    unfolding tagged
+    tagged-is = pair-number s 12 0x81 0x00 (lit< tt) (bytes 13)
+
+    pub smv-tagged : tagged s ≡ true → pairAt s 16 0x88 0xBA ≡ isSmvFrame s
+    unfolding isSmvFrame
+    smv-tagged e = rw e (pair-number s 16 0x88 0xBA (lit< tt) (bytes 17))
+
+    pub smv-untagged : tagged s ≡ false → pairAt s 12 0x88 0xBA ≡ isSmvFrame s
+    unfolding isSmvFrame
+    smv-untagged e = rw e (pair-number s 12 0x88 0xBA (lit< tt) (bytes 13))
 
   pub simulation-tagged : tagged s ≡ true → simulationOf s ≡ firstBit s 22
   unfolding simulationOf
@@ -146,11 +180,3 @@ module _ (s : List ℕ) where
   pub simulation-untagged : tagged s ≡ false → simulationOf s ≡ firstBit s 18
   unfolding simulationOf
   simulation-untagged e = rw e
-
-  pub tagged-pair : tagged s ≡ pairAt s 12 vlanTpid
-  unfolding tagged pairAt
-  tagged-pair = refl
-
-pub vlan-back : (v : Vlan) → vlanOf (tagOf v) ≡ v
-vlan-back vlan.Untagged = refl
-vlan-back (vlan.Tagged tpid tci) = refl

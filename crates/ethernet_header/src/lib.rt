@@ -1,7 +1,8 @@
 // The Ethernet header of a frame, and the marks that are found by it.
 ghost use mathlib.Core.Path.{_≡_};
 ghost use Prim.Native.Nat.{_+_, _≤_};
-ghost use lib.ListN.{length, take, drop};
+ghost use lib.ListN.{length, getD, take, drop};
+ghost use Rattle.definition.specs.Limits.{endsTooSoon};
 ghost use Rattle.definition.specs.Read.{beAt, tagged, headerAt, headerFrom, isSmvFrame, simulationOf};
 ghost use Rattle.rt_services.specs.Describe.{tagOf};
 ghost use Rattle.ethernet_header.specs.Header.{pairAt, headerRead, noHeader, headerRefusal, firstBit};
@@ -38,12 +39,6 @@ pub struct HeaderRead {
 }
 
 impl HeaderRead {
-    // The EtherType of sampled values.
-    pub const ETHER_TYPE: [u8; 2] = *b"\x88\xba";
-
-    // The TPID of a VLAN tag.
-    pub const TPID: [u8; 2] = *b"\x81\x00";
-
     // A header that holds nothing.
     pub const BLANK: EthernetHeader = EthernetHeader {
         dst_addr: [0; 6],
@@ -55,9 +50,15 @@ impl HeaderRead {
     };
 }
 
+// The EtherType of sampled values.
+const SMV: [u8; 2] = *b"\x88\xba";
+
+// The TPID of a VLAN tag.
+const TPID: [u8; 2] = *b"\x81\x00";
+
 // Whether the octets at a place are these two.
 fn pair_at(s: &[u8], at: usize, pair: &[u8; 2]) -> bool
-    ensures { λ r. ⌜ r ≡ pairAt (now (s .entry)) at (beAt (now (pair .entry)) 0 2) ⌝ }
+    ensures { λ r. ⌜ r ≡ pairAt (now (s .entry)) at (getD (now (pair .entry)) 0 0) (getD (now (pair .entry)) 1 0) ⌝ }
 {
     if s.len() < at {
         return false;
@@ -74,7 +75,7 @@ fn pair_at(s: &[u8], at: usize, pair: &[u8; 2]) -> bool
 fn is_tagged(s: &[u8]) -> bool
     ensures { λ r. ⌜ r ≡ tagged (now (s .entry)) ⌝ }
 {
-    pair_at(s, 12, &HeaderRead::TPID)
+    pair_at(s, 12, &TPID)
 }
 
 // Whether the EtherType is there, and is that of sampled values.
@@ -82,9 +83,9 @@ pub fn is_smv_frame(s: &[u8]) -> bool
     ensures { λ r. ⌜ r ≡ isSmvFrame (now (s .entry)) ⌝ }
 {
     if is_tagged(s) {
-        return pair_at(s, 16, &HeaderRead::ETHER_TYPE);
+        return pair_at(s, 16, &SMV);
     }
-    pair_at(s, 12, &HeaderRead::ETHER_TYPE)
+    pair_at(s, 12, &SMV)
 }
 
 // Whether the first bit of the octet at a place is set; past the end it isn't.
@@ -124,14 +125,14 @@ fn address(s: &[u8], at: usize) -> [u8; 6]
 }
 
 // The octets end before the header does.
-fn no_header(place: usize) -> HeaderRead
-    ensures { λ r. ⌜ r ≡ noHeader 1 place ⌝ }
+fn no_header(s: &[u8]) -> HeaderRead
+    ensures { λ r. ⌜ r ≡ noHeader endsTooSoon (length (now (s .entry))) ⌝ }
 {
     let header = HeaderRead::BLANK;
     HeaderRead {
         outcome: HeaderEnd::Refused(Refusal {
             number: Refusal::ENDS_TOO_SOON,
-            place,
+            place: s.len(),
         }),
         header,
     }
@@ -164,12 +165,12 @@ pub fn decode_ethernet_header(s: &[u8]) -> HeaderRead
 {
     if is_tagged(s) {
         if s.len() < 22 {
-            return no_header(s.len());
+            return no_header(s);
         }
         return header_from(s, 16, Vlan::Tagged(number16(s, 12), number16(s, 14)));
     }
     if s.len() < 18 {
-        return no_header(s.len());
+        return no_header(s);
     }
     header_from(s, 12, Vlan::Untagged)
 }

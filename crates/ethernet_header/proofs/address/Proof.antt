@@ -1,5 +1,4 @@
-use mathlib.Core.Path.{_≡_, sym, _∙_, refl}
-use native.Mathlib.Omega.{arith}
+-- address: six octets, element by element.
 use Rattle.ethernet_header.specs.Header.{six}
 use borrow.Author.Needs.{needs}
 use Rattle.ethernet_header.proofs.address.Statement.{statement}
@@ -7,53 +6,41 @@ use Rattle.ethernet_header.proofs.address.Tie as tie
 use Rattle.ethernet_header.proofs.address.Reads as reads
 use Rattle.ethernet_header.proofs.address.Lts as lts
 
--- src/lib.rt:123:6
 shared-slice-read-t4 : tie.Need-shared-slice-read-t4
 shared-slice-read-t4 c = search needs
 
--- src/lib.rt:123:15
 add-t5 : tie.Need-add-t5
 add-t5 c = search needs
 
--- src/lib.rt:123:13
 shared-slice-read-t7 : tie.Need-shared-slice-read-t7
 shared-slice-read-t7 c = search needs
 
--- src/lib.rt:123:26
 add-t8 : tie.Need-add-t8
 add-t8 c = search needs
 
--- src/lib.rt:123:24
 shared-slice-read-t10 : tie.Need-shared-slice-read-t10
 shared-slice-read-t10 c = search needs
 
--- src/lib.rt:123:37
 add-t11 : tie.Need-add-t11
 add-t11 c = search needs
 
--- src/lib.rt:123:35
 shared-slice-read-t13 : tie.Need-shared-slice-read-t13
 shared-slice-read-t13 c = search needs
 
--- src/lib.rt:123:48
 add-t14 : tie.Need-add-t14
 add-t14 c = search needs
 
--- src/lib.rt:123:46
 shared-slice-read-t16 : tie.Need-shared-slice-read-t16
 shared-slice-read-t16 c = search needs
 
--- src/lib.rt:123:59
 add-t17 : tie.Need-add-t17
 add-t17 c = search needs
 
--- src/lib.rt:123:57
 shared-slice-read-t19 : tie.Need-shared-slice-read-t19
 shared-slice-read-t19 c = search needs
 
--- src/lib.rt:119:1
 returns : tie.Need-returns
-returns c = six _ _ (c .before .before .before .before .before .before .before .before .before .before .before .before .pre)
+returns c = six _ _ (c .before .before .before .before .before .before .pre)
 
 pub address-spec : {M : Type 1} → statement M
 address-spec =

@@ -1,3 +1,6 @@
+-- decode_ethernet_header: by the test for a VLAN tag, then by the length.
+use mathlib.Core.Path.{sym, _∙_, ap}
+use Rattle.ethernet_header.specs.Header.{headerRead, header-tagged, header-untagged, header-no}
 use borrow.Author.Needs.{needs}
 use Rattle.ethernet_header.proofs.decode_ethernet_header.Statement.{statement}
 use Rattle.ethernet_header.proofs.decode_ethernet_header.Tie as tie
@@ -8,49 +11,38 @@ use Rattle.ethernet_header.proofs.is_tagged.Reads as is-tagged-reads
 use Rattle.ethernet_header.proofs.no_header.Reads as no-header-reads
 use Rattle.ethernet_header.proofs.number16.Reads as number16-reads
 
--- src/lib.rt:165:8
 is-tagged-requires : tie.Need-is-tagged-requires
 is-tagged-requires c κs = search needs
 
--- src/lib.rt:167:13
 no-header-requires : tie.Need-no-header-requires
 no-header-requires c κs = search needs
 
--- src/lib.rt:167:13
 returns : tie.Need-returns
-returns c = ?
+returns c = c .no-header .ensures ∙ sym (header-no _ 16 _ (header-tagged _ (sym (c .before .before .before .is-tagged .ensures) ∙ c .before .before .if1 .taken)) (c .before .if2 .taken))
 
--- src/lib.rt:169:48
 number16-requires : tie.Need-number16-requires
 number16-requires c κs = search needs
 
--- src/lib.rt:169:65
 number16-requires-2 : tie.Need-number16-requires-2
 number16-requires-2 c κs = search needs
 
--- src/lib.rt:169:9
 header-from-requires : tie.Need-header-from-requires
 header-from-requires c κs = search needs
 
--- src/lib.rt:169:9
 returns-2 : tie.Need-returns-2
-returns-2 c = ?
+returns-2 c = c .header-from .ensures ∙ rw (c .before .number162 .ensures, c .before .before .number16 .ensures) (ap headerRead (sym (header-tagged _ (sym (c .before .before .before .before .before .is-tagged .ensures) ∙ c .before .before .before .before .if1 .taken))))
 
--- src/lib.rt:172:9
 no-header-requires-2 : tie.Need-no-header-requires-2
 no-header-requires-2 c κs = search needs
 
--- src/lib.rt:172:9
 returns-3 : tie.Need-returns-3
-returns-3 c = ?
+returns-3 c = c .no-header2 .ensures ∙ sym (header-no _ 12 _ (header-untagged _ (sym (c .before .before .before .is-tagged .ensures) ∙ c .before .before .if1 .left)) (c .before .if3 .taken))
 
--- src/lib.rt:174:5
 header-from-requires-2 : tie.Need-header-from-requires-2
 header-from-requires-2 c κs = search needs
 
--- src/lib.rt:162:1
 returns-4 : tie.Need-returns-4
-returns-4 c = ?
+returns-4 c = c .header-from2 .ensures ∙ ap headerRead (sym (header-untagged _ (sym (c .before .before .before .is-tagged .ensures) ∙ c .before .before .if1 .left)))
 
 pub decode-ethernet-header-spec : {M : Type 1} → statement M
 decode-ethernet-header-spec =

@@ -1,5 +1,5 @@
-use mathlib.Core.Path.{_≡_, sym, _∙_, refl}
-use native.Mathlib.Omega.{arith}
+-- first_bit: past the end the octet reads as 0.
+use mathlib.Core.Path.{sym}
 use Rattle.ethernet_header.specs.Header.{bit-none}
 use borrow.Author.Needs.{needs}
 use Rattle.ethernet_header.proofs.first_bit.Statement.{statement}
@@ -7,15 +7,12 @@ use Rattle.ethernet_header.proofs.first_bit.Tie as tie
 use Rattle.ethernet_header.proofs.first_bit.Reads as reads
 use Rattle.ethernet_header.proofs.first_bit.Lts as lts
 
--- src/lib.rt:95:9
 returns : tie.Need-returns
-returns c = sym (bit-none _ _ (c .if1 .taken))
+returns c = sym (bit-none (c .before .args .s .now) (c .before .args .at) (c .if1 .taken))
 
--- src/lib.rt:97:13
 shared-slice-read-result : tie.Need-shared-slice-read-result
 shared-slice-read-result c = search needs
 
--- src/lib.rt:91:1
 returns-2 : tie.Need-returns-2
 returns-2 c = search needs
 

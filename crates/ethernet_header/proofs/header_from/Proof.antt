@@ -1,3 +1,5 @@
+-- header_from: the record is that of headerFrom, field by field.
+use Rattle.ethernet_header.specs.Header.{header-yes}
 use borrow.Author.Needs.{needs}
 use Rattle.ethernet_header.proofs.header_from.Statement.{statement}
 use Rattle.ethernet_header.proofs.header_from.Tie as tie
@@ -6,41 +8,32 @@ use Rattle.ethernet_header.proofs.header_from.Lts as lts
 use Rattle.ethernet_header.proofs.address.Reads as address-reads
 use Rattle.ethernet_header.proofs.number16.Reads as number16-reads
 
--- src/lib.rt:145:9
 address-requires : tie.Need-address-requires
 address-requires c κs = search needs
 
--- src/lib.rt:146:9
 address-requires-2 : tie.Need-address-requires-2
 address-requires-2 c κs = search needs
 
--- src/lib.rt:151:21
 number16-requires : tie.Need-number16-requires
 number16-requires c κs = search needs
 
--- src/lib.rt:152:28
 add-number16 : tie.Need-add-number16
 add-number16 c = search needs
 
--- src/lib.rt:152:16
 number16-requires-2 : tie.Need-number16-requires-2
 number16-requires-2 c κs = search needs
 
--- src/lib.rt:153:29
 add-number16-2 : tie.Need-add-number16-2
 add-number16-2 c = search needs
 
--- src/lib.rt:153:17
 number16-requires-3 : tie.Need-number16-requires-3
 number16-requires-3 c κs = search needs
 
--- src/lib.rt:156:47
 add-t9 : tie.Need-add-t9
 add-t9 c = search needs
 
--- src/lib.rt:141:1
 returns : tie.Need-returns
-returns c = ?
+returns c = rw (c .before .before .before .before .address .ensures, c .before .before .before .address2 .ensures, c .before .before .number16 .ensures, c .before .number162 .ensures, c .number163 .ensures) (header-yes _ _ _ (c .before .before .before .before .before .before .pre .2))
 
 pub header-from-spec : {M : Type 1} → statement M
 header-from-spec =

@@ -1,4 +1,5 @@
-use mathlib.Core.Path.{_≡_, sym, _∙_, refl}
+-- no_header: by computation.
+use mathlib.Core.Path.{refl}
 use Rattle.rt_services.specs.Describe.{headerRecord}
 use Rattle.ethernet_header.specs.Header.{noHeader, blankHeader}
 use Rattle.ethernet_header.proofs.no_header.Statement.{statement}
@@ -6,7 +7,6 @@ use Rattle.ethernet_header.proofs.no_header.Tie as tie
 use Rattle.ethernet_header.proofs.no_header.Reads as reads
 use Rattle.ethernet_header.proofs.no_header.Lts as lts
 
--- src/lib.rt:127:1
 returns : tie.Need-returns
 unfolding noHeader blankHeader headerRecord
 returns c = refl

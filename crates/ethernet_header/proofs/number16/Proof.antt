@@ -1,3 +1,5 @@
+-- number16: two octets are below 65,536.
+use Rattle.ber_decode.specs.Cases.{be-lt}
 use borrow.Author.Needs.{needs}
 use Rattle.ethernet_header.proofs.number16.Statement.{statement}
 use Rattle.ethernet_header.proofs.number16.Tie as tie
@@ -5,15 +7,12 @@ use Rattle.ethernet_header.proofs.number16.Reads as reads
 use Rattle.ethernet_header.proofs.number16.Lts as lts
 use Rattle.ber_decode.proofs.be.Reads as be-reads
 
--- src/lib.rt:115:5
 be-requires : tie.Need-be-requires
 be-requires c κs = search needs
 
--- src/lib.rt:115:5
 cast-result : tie.Need-cast-result
-cast-result c = ?
+cast-result c = rw (c .be .ensures) (record { fits = be-lt _ (λ k. c .before .shared-slice-known .given k .fits) _ 2 })
 
--- src/lib.rt:111:1
 returns : tie.Need-returns
 returns c = search needs
 

@@ -1,22 +1,19 @@
+-- HeaderEnd::refusal: by the variant that the match found.
 use borrow.Author.Needs.{needs}
 use Rattle.ethernet_header.proofs.HeaderEnd.refusal.Statement.{statement}
 use Rattle.ethernet_header.proofs.HeaderEnd.refusal.Tie as tie
 use Rattle.ethernet_header.proofs.HeaderEnd.refusal.Reads as reads
 use Rattle.ethernet_header.proofs.HeaderEnd.refusal.Lts as lts
 
--- src/lib.rt:25:32
 enum-known-self : tie.Need-enum-known-self
 enum-known-self c = search needs
 
--- src/lib.rt:26:35
 enum-told : tie.Need-enum-told
 enum-told c = search needs
 
--- src/lib.rt:21:5
 returns : tie.Need-returns
 returns c = search needs
 
--- src/lib.rt:21:5
 returns-2 : tie.Need-returns-2
 returns-2 c = rw (c .enum-told .given .1)
 
