@@ -4,3 +4,4 @@ pub mod Asdus
 pub mod Told
 pub mod Pdu
 pub mod Frame
+pub mod NoAsdu
