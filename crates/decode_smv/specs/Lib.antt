@@ -5,3 +5,4 @@ pub mod Told
 pub mod Pdu
 pub mod Frame
 pub mod NoAsdu
+pub mod Opening
