@@ -14,11 +14,9 @@ use Rattle.definition.specs.Read.{Out, got, refused, beAt, headAt, numberAt, sp
 use Rattle.definition.specs.Limits.{endsTooSoon, badLength, integerTooLong}
 use Rattle.ber_decode.specs.declared.Width.{Width}
 use Rattle.ber_decode.specs.declared.Width.the-variants as width
-use Rattle.ber_decode.specs.declared.Cursor.{Cursor}
 use Rattle.ber_decode.specs.declared.Span.{Span}
 use Rattle.ber_decode.specs.declared.Span.the-variants as span
-use Rattle.rt_services.specs.declared.Refusal.{Refusal}
-use Rattle.ber_decode.specs.Told.{octetsOf, foundSpan}
+use Rattle.ber_decode.specs.Told.{octetsOf, toldSpan, foundSpan}
 
 -- ---- numbers
 
@@ -216,34 +214,25 @@ number-lt w s h at n =
     plain : n ≤ w → beAt s at n < 256 ^ w
     plain l = let p : 256 ^ n ≤ 256 ^ w = pow-le-pow-right (lit< tt) l in omega (arith, be-lt s h at n)
 
--- octets that were found: they are there, they can be held, and they are what the definition finds
-pub record Found (limit : ℕ) (s : List ℕ) (o : Out (List ℕ)) (at n : ℕ) (c : Cursor) : Type 0 where
-  pub is : o ≡ got (take n (drop at s)) (c .at)
+-- octets that are there, and can be held
+pub record Inside (limit : ℕ) (s : List ℕ) (at n : ℕ) : Type 0 where
   pub fits : n ≤ limit
   pub within : at + n ≤ length s
 
-pub span-found : (number limit : ℕ) (s : List ℕ) (at n : ℕ) {x : Span} {p k : ℕ} {c : Cursor}
-    → x ≡ foundSpan at n (spanAt number limit s at n) → x ≡ span.Octets p k c → Found limit s (spanAt number limit s at n) p k c
-span-found number limit s at n {x} {p} {k} {c} a e =
+abbrev pub SpanIn : ℕ → List ℕ → Span → Type 0
+SpanIn limit s (span.Octets at n c) = Inside limit s at n
+SpanIn limit s (span.Refused r) = Unit {0}
+
+-- an answer tells what the definition finds, and keeps within its bounds
+pub record Says {X A : Type 0} (tell : X → Out A) (In : X → Type 0) (x : X) (o : Out A) : Type 0 where
+  pub told : tell x ≡ o
+  pub inside : In x
+
+-- what a step that reads octets answers, is so
+pub span-says : (number limit : ℕ) (s : List ℕ) (at n : ℕ) → Says (toldSpan s) (SpanIn limit s) (foundSpan at n (spanAt number limit s at n)) (spanAt number limit s at n)
+span-says number limit s at n =
     split (at + n) (length s) (λ f.
     split n limit
-    (λ g.
-    let h = span-held number limit s at n f g in
-    let i : span.Octets at n (record { at = at + n }) ≡ span.Octets p k c = ap (foundSpan at n) (sym h) ∙ sym a ∙ e in
-    let x : at ≡ p = cc in
-    let y : n ≡ k = cc in
-    let z : at + n ≡ c .at = cc in
-    rw (← x, ← y) (record { is = h ∙ rw z; fits = g; within = f }))
-    (λ g. absurd (none (ap (foundSpan at n) (sym (span-long number limit s at n f g)) ∙ sym a ∙ e))))
-    (λ f. absurd (none (ap (foundSpan at n) (sym (span-cut number limit s at n f)) ∙ sym a ∙ e)))
-  where
-    none : {r : Refusal} → span.Refused r ≡ span.Octets p k c → ⊥
-    none e = let z : _≡_ {A = ℕ} 0 1 = cc in omega arith
-
--- octets that were refused
-pub span-no : (at n : ℕ) (o : Out (List ℕ)) {x : Span} {r : Refusal} → x ≡ foundSpan at n o → x ≡ span.Refused r → o ≡ refused (r .number) (r .place)
-span-no at n (got l end) a e = let z : _≡_ {A = ℕ} 0 1 = cc in absurd (omega arith)
-span-no at n (refused k p) {x} {r} a e =
-    let i : span.Refused (record { number = k; place = p }) ≡ span.Refused r = sym a ∙ e in
-    let z : r ≡ record { number = k; place = p } = cc in
-    rw z
+    (λ g. rw (span-held number limit s at n f g) (record { told = refl; inside = record { fits = g; within = f } }))
+    (λ g. rw (span-long number limit s at n f g) (record { told = refl; inside = tt })))
+    (λ f. rw (span-cut number limit s at n f) (record { told = refl; inside = tt }))
