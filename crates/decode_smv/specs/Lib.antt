@@ -5,4 +5,6 @@ pub mod Told
 pub mod Pdu
 pub mod Frame
 pub mod NoAsdu
+pub mod Outcome
 pub mod Opening
+pub mod Reading
