@@ -40,9 +40,21 @@ lengthSize-le n = go (lt-or-ge n 128)
 pub length-head : (tag n : ℕ) → length (tag ∷ lengthOctets n) ≡ 1 + lengthSize n
 length-head tag n = omega (arith, length-lengthOctets n)
 
+-- tag, length and n octets of content
+unfoldable pub tlvSize : ℕ → ℕ
+tlvSize n = 1 + lengthSize n + n
+
+pub tlvSize-le : (n : ℕ) → (2 + n ≤ tlvSize n) × (tlvSize n ≤ 5 + n)
+unfolding tlvSize
+tlvSize-le n = omega (arith, lengthSize-le n)
+
 pub length-tlv : (tag : ℕ) (content : List ℕ) → length (tlv tag content) ≡ 1 + lengthSize (length content) + length content
 unfolding tlv
 length-tlv tag content = simp (length-append, length-lengthOctets) (omega arith)
+
+pub tlv-size : (tag : ℕ) (content : List ℕ) → length (tlv tag content) ≡ tlvSize (length content)
+unfolding tlvSize
+tlv-size tag content = length-tlv tag content
 
 -- an integer with its tag, as the writer writes it
 pub tlv-uint : (tag v : ℕ) → tlv tag (uintOctets v) ≡ (tag ∷ lengthOctets (uintSize v)) ++ octets (uintSize v) v
@@ -51,3 +63,6 @@ tlv-uint tag v = rw length-octets
 
 pub uint-room : (tag v : ℕ) → length (tlv tag (uintOctets v)) ≡ 1 + lengthSize (uintSize v) + uintSize v
 uint-room tag v = length-tlv tag (uintOctets v) ∙ rw length-uintOctets
+
+pub uint-size : (tag v : ℕ) → length (tlv tag (uintOctets v)) ≡ tlvSize (uintSize v)
+uint-size tag v = tlv-size tag (uintOctets v) ∙ ap tlvSize (length-uintOctets v)

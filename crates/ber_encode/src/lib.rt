@@ -5,14 +5,13 @@ ghost use mathlib.Core.Path.{_≡_};
 ghost use mathlib.Core.List.{_++_, _∷_, []};
 ghost use Prim.Native.Nat.{ℕ, _+_, _-_, _*_, _/_, _%_, _^_, _≤_, _<_};
 ghost use lib.ListN.{length, take, drop};
-ghost use lib.Dec.{leb};
 ghost use Rattle.definition.specs.Limits.{lengthLimit};
 ghost use Rattle.definition.specs.Octets.{octets, lengthMore, lengthOctets, uintSize, uintOctets, tlv};
 ghost use Rattle.definition.specs.Held.{heldOctets};
-ghost use Rattle.definition.specs.Answers.{encodeTagLength, encodeBer, leaves, refusal};
+ghost use Rattle.definition.specs.Answers.{encodeTagLength, encodeBer, leaves};
 ghost use Rattle.ber_encode.specs.Put.{Wrote};
-ghost use Rattle.ber_encode.specs.Size.{lengthSize};
-ghost use Rattle.ber_encode.specs.Told.{told};
+ghost use Rattle.ber_encode.specs.Size.{lengthSize, tlvSize};
+ghost use Rattle.ber_encode.specs.Told.{told, refusedAs};
 
 // A length below this can be written.
 const LENGTH_LIMIT: usize = 16777216;
@@ -45,6 +44,14 @@ pub fn unsigned_integer_length(value: u32) -> usize
     ensures { λ r. ⌜ r ≡ uintSize value ⌝ }
 {
     ((32 - u32::leading_zeros(value)) / 8 + 1) as usize
+}
+
+// How many octets an element is written in: tag, length and n octets of content.
+pub fn tlv_size(n: usize) -> usize
+    requires { ⌜ n < lengthLimit ⌝ }
+    ensures { λ r. ⌜ r ≡ tlvSize n ⌝ }
+{
+    1 + size_length(n) + n
 }
 
 // The k low octets of v, highest first.
@@ -124,27 +131,29 @@ pub enum Written {
     At(usize),
 }
 
-// Whether `head` octets, then `content` octets, have room from `at` on.
-fn has_room(room: usize, at: usize, head: usize, content: usize) -> bool
-    ensures { λ r. ⌜ r ≡ leb (at + (head + content)) room ⌝ }
+// a - b, and 0 where b is larger.
+fn less(a: usize, b: usize) -> usize
+    ensures { λ r. ⌜ r ≡ a - b ⌝ }
 {
-    if room < at {
-        return false;
+    if a < b {
+        return 0;
     }
-    let left = room - at;
-    if left < head {
-        return false;
-    }
-    content <= left - head
+    a - b
 }
 
-fn refused(number: usize) -> Written
-    ensures { λ r. ⌜ told r ≡ refusal number 0 ⌝ }
+// The number of the refusal of an element whose tag stands at `at`, with `size` length octets that
+// tell the length n and `content` octets after them; 0 where it can be written.
+fn refused_as(room: usize, at: usize, size: usize, content: usize, n: usize) -> usize
+    ensures { λ r. ⌜ r ≡ refusedAs room (at + (1 + size + content)) n ⌝ }
 {
-    Written::Refused(Refusal {
-        number: number,
-        place: 0,
-    })
+    let left = less(less(room, at), content);
+    if left <= size {
+        return Refusal::NO_ROOM;
+    }
+    if LENGTH_LIMIT <= n {
+        return Refusal::TOO_LONG_TO_WRITE;
+    }
+    0
 }
 
 // A tag and the length `value`.
@@ -152,11 +161,12 @@ pub fn encode_tag_length(tag: u8, value: usize, buffer: &mut [u8], at: usize) ->
     ensures answer { λ r. ⌜ told r ≡ encodeTagLength (length (now (buffer .entry))) at tag value ⌝ }
     ensures octets { λ r. ⌜ now (buffer .exit) ≡ leaves (encodeTagLength (length (now (buffer .entry))) at tag value) (now (buffer .entry)) at (tag ∷ lengthOctets value) ⌝ }
 {
-    if !has_room(buffer.len(), at, 1 + size_length(value), 0) {
-        return refused(Refusal::NO_ROOM);
-    }
-    if LENGTH_LIMIT <= value {
-        return refused(Refusal::TOO_LONG_TO_WRITE);
+    let number = refused_as(buffer.len(), at, size_length(value), 0, value);
+    if number != 0 {
+        return Written::Refused(Refusal {
+            number: number,
+            place: 0,
+        });
     }
     Written::At(put_tag_length(buffer, at, tag, value))
 }
@@ -167,8 +177,12 @@ pub fn encode_unsigned_integer(tag: u8, value: u32, buffer: &mut [u8], at: usize
     ensures octets { λ r. ⌜ now (buffer .exit) ≡ leaves (encodeBer (length (now (buffer .entry))) at tag (uintOctets value)) (now (buffer .entry)) at (tlv tag (uintOctets value)) ⌝ }
 {
     let size = unsigned_integer_length(value);
-    if !has_room(buffer.len(), at, 1 + size_length(size), size) {
-        return refused(Refusal::NO_ROOM);
+    let number = refused_as(buffer.len(), at, size_length(size), size, size);
+    if number != 0 {
+        return Written::Refused(Refusal {
+            number: number,
+            place: 0,
+        });
     }
     Written::At(put_uint(buffer, at, tag, value))
 }
@@ -179,11 +193,12 @@ pub fn encode_octet_string(tag: u8, value: &[u8], buffer: &mut [u8], at: usize) 
     ensures octets { λ r. ⌜ now (buffer .exit) ≡ leaves (encodeBer (length (now (buffer .entry))) at tag (now (value .entry))) (now (buffer .entry)) at (tlv tag (now (value .entry))) ⌝ }
 {
     let size = value.len();
-    if !has_room(buffer.len(), at, 1 + size_length(size), size) {
-        return refused(Refusal::NO_ROOM);
-    }
-    if LENGTH_LIMIT <= size {
-        return refused(Refusal::TOO_LONG_TO_WRITE);
+    let number = refused_as(buffer.len(), at, size_length(size), size, size);
+    if number != 0 {
+        return Written::Refused(Refusal {
+            number: number,
+            place: 0,
+        });
     }
     Written::At(put_string(buffer, at, tag, value))
 }

@@ -41,7 +41,7 @@ size-is v h = go (leading-length 32 v h) (lt-or-ge v 128) (lt-or-ge v 32768) (lt
     go s (inr a) (inr b) (inr d) (inr e) = simp (le-ltb v 128 a, le-ltb v 32768 b, le-ltb v 8388608 d, le-ltb v 2147483648 e) (omega (arith, below v (s .0) 31 (s .2) e))
 
 sub-result : tie.Need-sub-result
-sub-result c = leading-le 32 (c .args .value)
+sub-result c = omega (arith, leading-le 32 (c .args .value))
 
 add-result : tie.Need-add-result
 add-result c = search needs
