@@ -178,6 +178,7 @@ fn asdus(pdu: SavPdu, channels: usize, counts: &[i32], qualities: &[u32]) {
     }
 }
 
+// The lines of a description after the number of channels.
 pub fn description(
     h: EthernetHeader,
     pdu: SavPdu,
@@ -185,7 +186,6 @@ pub fn description(
     counts: &[i32],
     qualities: &[u32],
 ) {
-    number(b"channels", channels);
     header(h);
     simulation(pdu.sim);
     let security = pdu.security;
