@@ -1,2 +1,3 @@
 pub mod Cases
 pub mod Differ
+pub mod Again
