@@ -35,7 +35,8 @@ fn put_reserved(frame: &mut [u8], at: usize, sim: bool) -> usize
 
 // How many octets the header is written in.
 pub fn header_length(header: EthernetHeader) -> usize
-    ensures { λ r. ⌜ ((sim : Bool) (len : ℕ) → r ≡ length (headerOctets header sim len)) ⌝ }
+    ensures octets { λ r. ⌜ ((sim : Bool) (len : ℕ) → r ≡ length (headerOctets header sim len)) ⌝ }
+    ensures bound { λ r. ⌜ r ≤ 26 ⌝ }
 {
     let vlan = header.vlan;
     let Vlan::Tagged(_, _) = vlan else {
