@@ -10,7 +10,8 @@ pub fn copy_counts(from: &[i32], n: usize, to: &mut [i32])
 {
     let mut i = 0;
     while i < n {
-        to[i] = from[i];
+        let x = from[i];
+        to[i] = x;
         i += 1;
     }
 }
@@ -21,7 +22,8 @@ pub fn copy_qualities(from: &[u32], n: usize, to: &mut [u32])
 {
     let mut i = 0;
     while i < n {
-        to[i] = from[i];
+        let x = from[i];
+        to[i] = x;
         i += 1;
     }
 }
