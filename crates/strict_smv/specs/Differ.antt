@@ -20,6 +20,10 @@ abbrev pub differenceOf : Difference → Option ℕ
 differenceOf Nowhere = none
 differenceOf (At k) = some k
 
+abbrev pub placeOf : Difference → ℕ
+placeOf Nowhere = 0
+placeOf (At k) = k
+
 -- lists of a and b octets that agree as far as the shorter goes
 unfoldable pub endsDiffer : ℕ → ℕ → Option ℕ
 endsDiffer a b = cond (eqb a b) none (some (min a b))

@@ -2,3 +2,4 @@ pub mod Cases
 pub mod Differ
 pub mod Again
 pub mod Record
+pub mod Strict

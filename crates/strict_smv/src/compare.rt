@@ -4,11 +4,23 @@ ghost use mathlib.Core.Bool.{true, false};
 ghost use Prim.Native.Nat.{_≤_, _<_, min};
 ghost use lib.ListN.{length, getD};
 ghost use Rattle.definition.specs.Answers.{differ};
-ghost use Rattle.strict_smv.specs.Differ.{Agree, differenceOf, endsDiffer};
+ghost use Rattle.strict_smv.specs.Differ.{Agree, differenceOf, placeOf, endsDiffer};
 
 pub enum Difference {
     Nowhere,
     At(usize),
+}
+
+impl Difference {
+    // Its place, where there is one.
+    pub fn place(self) -> usize
+        ensures { λ r. ⌜ r ≡ placeOf self ⌝ }
+    {
+        match self {
+            Difference::Nowhere => 0,
+            Difference::At(k) => k,
+        }
+    }
 }
 
 // The first octet that differs, or the shorter length, or that there is no difference.
