@@ -7,8 +7,6 @@ use lib.ListN.{length, getD}
 use Rattle.strict_smv.specs.Differ.{Agree, agree-none, agree-more}
 use Rattle.strict_smv.proofs.compare.agree.Statement.{statement}
 use Rattle.strict_smv.proofs.compare.agree.Tie as tie
-use Rattle.strict_smv.proofs.compare.agree.Reads as reads
-use Rattle.strict_smv.proofs.compare.agree.Lts as lts
 
 abbrev Inv-loop : tie.InvT-loop
 Inv-loop s t n same₀ i₀ same i = (i ≤ n) × (same ≡ true → Agree i s t)
@@ -16,27 +14,21 @@ Inv-loop s t n same₀ i₀ same i = (i ≤ n) × (same ≡ true → Agree i s t
 abbrev μ-loop : tie.MeasureT-loop
 μ-loop s t n same₀ i₀ same i = n - i
 
--- src/compare.rt:45:5
 loop-holds : tie.Need-loop-holds Inv-loop μ-loop
 loop-holds c = (omega arith, λ e. agree-none (c .args .s .now) (c .args .t .now))
 
--- src/compare.rt:46:12
 shared-slice-read-if1 : tie.Need-shared-slice-read-if1 Inv-loop μ-loop
 shared-slice-read-if1 c = omega arith
 
--- src/compare.rt:46:20
 shared-slice-read-if1-2 : tie.Need-shared-slice-read-if1-2 Inv-loop μ-loop
 shared-slice-read-if1-2 c = omega arith
 
--- src/compare.rt:49:9
 add-i : tie.Need-add-i Inv-loop μ-loop
 add-i c = omega arith
 
--- src/compare.rt:45:5
 loop-less : tie.Need-loop-less Inv-loop μ-loop
 loop-less c = omega arith
 
--- src/compare.rt:45:5
 loop-again : tie.Need-loop-again Inv-loop μ-loop
 loop-again c =
     let l = c .before .before .before .before .loop in
@@ -49,7 +41,6 @@ loop-again c =
           (c .if1 .came),
     )
 
--- src/compare.rt:39:1
 returns : tie.Need-returns Inv-loop μ-loop
 returns c =
     let l = c .before .loop in

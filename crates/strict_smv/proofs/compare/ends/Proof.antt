@@ -4,20 +4,14 @@ use Rattle.strict_smv.specs.Differ.{endsDiffer}
 use borrow.Author.Needs.{needs}
 use Rattle.strict_smv.proofs.compare.ends.Statement.{statement}
 use Rattle.strict_smv.proofs.compare.ends.Tie as tie
-use Rattle.strict_smv.proofs.compare.ends.Reads as reads
-use Rattle.strict_smv.proofs.compare.ends.Lts as lts
-use Rattle.strict_smv.proofs.compare.shorter.Reads as shorter-reads
 
--- src/compare.rt:42:24
 shorter-requires : tie.Need-shorter-requires
 shorter-requires c κs = search needs
 
--- src/compare.rt:36:1
 returns : tie.Need-returns
 unfolding endsDiffer
 returns c = rw (eq-eqb (c .before .args .a) (c .before .args .b) (c .if1 .taken))
 
--- src/compare.rt:36:1
 returns-2 : tie.Need-returns-2
 unfolding endsDiffer
 returns-2 c = rw (ne-eqb (c .before .before .args .a) (c .before .before .args .b) (c .before .if1 .left), c .shorter .ensures)

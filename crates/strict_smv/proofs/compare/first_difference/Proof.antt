@@ -8,47 +8,33 @@ use Rattle.strict_smv.specs.Differ.{differ-ends, differ-octet}
 use borrow.Author.Needs.{needs}
 use Rattle.strict_smv.proofs.compare.first_difference.Statement.{statement}
 use Rattle.strict_smv.proofs.compare.first_difference.Tie as tie
-use Rattle.strict_smv.proofs.compare.first_difference.Reads as reads
-use Rattle.strict_smv.proofs.compare.first_difference.Lts as lts
-use Rattle.strict_smv.proofs.compare.agree.Reads as agree-reads
-use Rattle.strict_smv.proofs.compare.ends.Reads as ends-reads
-use Rattle.strict_smv.proofs.compare.search.Reads as search-reads
-use Rattle.strict_smv.proofs.compare.shorter.Reads as shorter-reads
 
--- src/compare.rt:18:9
 shorter-requires : tie.Need-shorter-requires
 shorter-requires c κs = search needs
 
--- src/compare.rt:19:8
 agree-requires : tie.Need-agree-requires
 agree-requires c κs = search needs
 
--- src/compare.rt:20:9
 ends-requires : tie.Need-ends-requires
 ends-requires c κs = search needs
 
--- src/compare.rt:20:9
 returns : tie.Need-returns
 returns c =
     let a = c .before .before .before .before .before .before .args in
     c .ends .ensures ∙ sym (differ-ends (a .s .now) (a .t .now) (rw (c .before .before .before .shorter .ensures) at (c .before .before .agree .ensures (c .before .if1 .taken))))
 
--- src/compare.rt:22:9
 search-requires : tie.Need-search-requires
 search-requires c κs = search needs
 
--- src/compare.rt:24:9
 returns-2 : tie.Need-returns-2
 returns-2 c =
     let a = c .before .before .before .before .before .before .before .args in
     let f = c .before .search .ensures in
     sym (differ-octet (a .s .now) (a .t .now) (c .before .search .result) (omega arith) (omega arith) (f .1) (f .2 (omega arith)))
 
--- src/compare.rt:26:5
 ends-requires-2 : tie.Need-ends-requires-2
 ends-requires-2 c κs = search needs
 
--- src/compare.rt:15:1
 returns-3 : tie.Need-returns-3
 returns-3 c =
     let a = c .before .before .before .before .before .before .before .before .args in

@@ -5,8 +5,6 @@ use lib.ListN.{length, getD}
 use Rattle.strict_smv.specs.Differ.{Agree, agree-none, agree-more}
 use Rattle.strict_smv.proofs.compare.search.Statement.{statement}
 use Rattle.strict_smv.proofs.compare.search.Tie as tie
-use Rattle.strict_smv.proofs.compare.search.Reads as reads
-use Rattle.strict_smv.proofs.compare.search.Lts as lts
 
 abbrev Inv-loop : tie.InvT-loop
 Inv-loop s t n i₀ i = (i ≤ n) × Agree i s t
@@ -14,40 +12,32 @@ Inv-loop s t n i₀ i = (i ≤ n) × Agree i s t
 abbrev μ-loop : tie.MeasureT-loop
 μ-loop s t n i₀ i = n - i
 
--- src/compare.rt:60:5
 loop-holds : tie.Need-loop-holds Inv-loop μ-loop
 loop-holds c = (omega arith, agree-none (c .args .s .now) (c .args .t .now))
 
--- src/compare.rt:61:12
 shared-slice-read-if1 : tie.Need-shared-slice-read-if1 Inv-loop μ-loop
 shared-slice-read-if1 c = omega arith
 
--- src/compare.rt:61:20
 shared-slice-read-if1-2 : tie.Need-shared-slice-read-if1-2 Inv-loop μ-loop
 shared-slice-read-if1-2 c = omega arith
 
--- src/compare.rt:62:13
 returns : tie.Need-returns Inv-loop μ-loop
 returns c =
     let l = c .before .before .before .before .loop in
     (omega arith, l .inv .1, λ h e. c .if1 .taken e)
 
--- src/compare.rt:64:9
 add-i : tie.Need-add-i Inv-loop μ-loop
 add-i c = omega arith
 
--- src/compare.rt:60:5
 loop-less : tie.Need-loop-less Inv-loop μ-loop
 loop-less c = omega arith
 
--- src/compare.rt:60:5
 loop-again : tie.Need-loop-again Inv-loop μ-loop
 loop-again c =
     let l = c .before .before .before .before .loop in
     let a = c .before .before .before .before .before .args in
     (omega arith, agree-more (a .s .now) (a .t .now) (l .i) (omega arith) (omega arith) (c .if1 .left) (l .inv .1))
 
--- src/compare.rt:55:1
 returns-2 : tie.Need-returns-2 Inv-loop μ-loop
 returns-2 c =
     let l = c .before .loop in

@@ -11,8 +11,6 @@ use Rattle.definition.specs.Answers.{over}
 use Rattle.strict_smv.specs.Record.{copy-none, copy-more}
 use Rattle.strict_smv.proofs.copy.copy_counts.Statement.{statement}
 use Rattle.strict_smv.proofs.copy.copy_counts.Tie as tie
-use Rattle.strict_smv.proofs.copy.copy_counts.Reads as reads
-use Rattle.strict_smv.proofs.copy.copy_counts.Lts as lts
 
 abbrev Inv-loop : tie.InvT-loop
 Inv-loop from n to₀ i₀ to i = (i ≤ n) × (length to ≡ length to₀) × (to ≡ over to₀ 0 (take i from))
@@ -20,51 +18,40 @@ Inv-loop from n to₀ i₀ to i = (i ≤ n) × (length to ≡ length to₀) × (
 abbrev μ-loop : tie.MeasureT-loop
 μ-loop from n to₀ i₀ to i = n - i
 
--- src/copy.rt:12:5
 loop-holds : tie.Need-loop-holds Inv-loop μ-loop
 loop-holds c = (omega arith, refl, copy-none (pos 0) (c .args .from .now) (c .args .to .now))
 
--- src/copy.rt:13:17
 mul-x : tie.Need-mul-x Inv-loop μ-loop
 mul-x c = search needs
 
--- src/copy.rt:13:17
 shared-slice-copy-out-x : tie.Need-shared-slice-copy-out-x Inv-loop μ-loop
 shared-slice-copy-out-x c = search needs
 
--- src/copy.rt:14:9
 mul-x-2 : tie.Need-mul-x-2 Inv-loop μ-loop
 mul-x-2 c = search needs
 
--- src/copy.rt:14:9
 slice-set-from-x : tie.Need-slice-set-from-x Inv-loop μ-loop
 slice-set-from-x c = search needs
 
--- src/copy.rt:15:9
 add-i : tie.Need-add-i Inv-loop μ-loop
 add-i c = search needs
 
--- src/copy.rt:12:5
 loop-less : tie.Need-loop-less Inv-loop μ-loop
 loop-less c = search needs
 
--- src/copy.rt:12:5
 loop-again : tie.Need-loop-again Inv-loop μ-loop
 loop-again c =
     let l = c .before .before .loop in
     let a = c .before .before .before .args in
-    let e : toZ w32 (ofZ w32 (getD (a .from .now) (l .i) (pos 0))) ≡ getD (a .from .now) (l .i) (pos 0) = toZ-ofZ w32 _ (record { sfits = c .x .given }) in
-    (
+    let e : toZ w32 (ofZ w32 (getD (a .from .now) (l .i) (pos 0))) ≡ getD (a .from .now) (l .i) (pos 0) = toZ-ofZ w32 _ (record { sfits = c .x .given }) in (
       omega arith,
       length-set (l .to) (l .i) _ ∙ l .inv .1,
       rw e (rw (← l .inv .2) at (copy-more (pos 0) (a .from .now) (a .to .now) (l .i) (omega arith) (omega arith))),
     )
 
--- src/copy.rt:7:1
 same-length : tie.Need-same-length Inv-loop μ-loop
 same-length c = c .before .loop .inv .1
 
--- src/copy.rt:7:1
 returns : tie.Need-returns Inv-loop μ-loop
 returns c =
     let l = c .before .loop in

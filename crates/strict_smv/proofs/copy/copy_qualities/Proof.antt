@@ -7,8 +7,6 @@ use Rattle.definition.specs.Answers.{over}
 use Rattle.strict_smv.specs.Record.{copy-none, copy-more}
 use Rattle.strict_smv.proofs.copy.copy_qualities.Statement.{statement}
 use Rattle.strict_smv.proofs.copy.copy_qualities.Tie as tie
-use Rattle.strict_smv.proofs.copy.copy_qualities.Reads as reads
-use Rattle.strict_smv.proofs.copy.copy_qualities.Lts as lts
 
 abbrev Inv-loop : tie.InvT-loop
 Inv-loop from n to₀ i₀ to i = (i ≤ n) × (length to ≡ length to₀) × (to ≡ over to₀ 0 (take i from))
@@ -16,50 +14,39 @@ Inv-loop from n to₀ i₀ to i = (i ≤ n) × (length to ≡ length to₀) × (
 abbrev μ-loop : tie.MeasureT-loop
 μ-loop from n to₀ i₀ to i = n - i
 
--- src/copy.rt:24:5
 loop-holds : tie.Need-loop-holds Inv-loop μ-loop
 loop-holds c = (omega arith, refl, copy-none 0 (c .args .from .now) (c .args .to .now))
 
--- src/copy.rt:25:17
 mul-x : tie.Need-mul-x Inv-loop μ-loop
 mul-x c = search needs
 
--- src/copy.rt:25:17
 shared-slice-read-x : tie.Need-shared-slice-read-x Inv-loop μ-loop
 shared-slice-read-x c = search needs
 
--- src/copy.rt:26:9
 mul-to : tie.Need-mul-to Inv-loop μ-loop
 mul-to c = search needs
 
--- src/copy.rt:26:9
 slice-write-to : tie.Need-slice-write-to Inv-loop μ-loop
 slice-write-to c = search needs
 
--- src/copy.rt:27:9
 add-i : tie.Need-add-i Inv-loop μ-loop
 add-i c = search needs
 
--- src/copy.rt:24:5
 loop-less : tie.Need-loop-less Inv-loop μ-loop
 loop-less c = search needs
 
--- src/copy.rt:24:5
 loop-again : tie.Need-loop-again Inv-loop μ-loop
 loop-again c =
     let l = c .before .before .loop in
-    let a = c .before .before .before .args in
-    (
+    let a = c .before .before .before .args in (
       omega arith,
       length-set (l .to) (l .i) _ ∙ l .inv .1,
       (rw (← l .inv .2) at (copy-more 0 (a .from .now) (a .to .now) (l .i) (omega arith) (omega arith))),
     )
 
--- src/copy.rt:19:1
 same-length : tie.Need-same-length Inv-loop μ-loop
 same-length c = c .before .loop .inv .1
 
--- src/copy.rt:19:1
 returns : tie.Need-returns Inv-loop μ-loop
 returns c =
     let l = c .before .loop in
