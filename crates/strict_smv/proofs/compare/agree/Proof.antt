@@ -1,3 +1,4 @@
+-- `strict_smv::compare::agree` meets its contract. The invariant: while no octet has differed, those passed agree.
 use Prim.Native.Nat.{ℕ, _≤_, _-_}
 use mathlib.Core.Path.{_≡_, sym, _∙_}
 use native.Mathlib.Omega.{arith}

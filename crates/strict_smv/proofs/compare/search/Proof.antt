@@ -1,3 +1,4 @@
+-- `strict_smv::compare::search` meets its contract. The invariant: the octets passed agree.
 use Prim.Native.Nat.{_≤_, _-_}
 use mathlib.Core.Path.{_≡_}
 use native.Mathlib.Omega.{arith}

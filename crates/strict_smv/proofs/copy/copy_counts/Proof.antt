@@ -1,3 +1,4 @@
+-- `strict_smv::copy::copy_counts` meets its contract. The invariant: the elements passed stand in the lent array.
 use lib.IntN.{pos}
 use mir.Val.{toZ, ofZ}
 use mir.ValLaws.{toZ-ofZ}

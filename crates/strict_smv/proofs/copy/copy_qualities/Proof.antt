@@ -1,3 +1,4 @@
+-- `strict_smv::copy::copy_qualities` meets its contract. The invariant: the elements passed stand in the lent array.
 use Prim.Native.Nat.{_≤_, _-_}
 use mathlib.Core.Path.{_≡_, refl, sym, ap, _∙_}
 use native.Mathlib.Omega.{arith}
