@@ -1,0 +1,5 @@
+pub mod Cases
+pub mod Differ
+pub mod Again
+pub mod Record
+pub mod Strict
