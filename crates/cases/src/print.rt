@@ -39,7 +39,7 @@ pub fn hex16(n: u16) {
 }
 
 // The magnitude of a signed number.
-fn magnitude(v: i32) -> u64 {
+pub fn magnitude(v: i32) -> u64 {
     if v < 0 {
         return ((-1 - v) as u64) + 1;
     }
