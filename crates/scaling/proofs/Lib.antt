@@ -1,0 +1,4 @@
+pub mod Signed
+pub mod Whole
+pub mod Quotient
+pub mod Samples
