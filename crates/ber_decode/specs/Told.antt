@@ -1,0 +1,59 @@
+-- What each answer of the cursor says, in the terms of the definition: a value and the place after it, or a refusal's number and
+-- place.
+use mathlib.Core.List.{List}
+use Prim.Native.Nat.{ℕ}
+use lib.ListN.{take, drop}
+use Rattle.definition.specs.Read.{Out, got, refused}
+use Rattle.definition.specs.Read as read
+use Rattle.rt_services.specs.declared.Refusal.{Refusal}
+use Rattle.ber_decode.specs.declared.Cursor.{Cursor}
+use Rattle.ber_decode.specs.declared.Head.{Head}
+use Rattle.ber_decode.specs.declared.Head.the-variants as head
+use Rattle.ber_decode.specs.declared.Number.{Number}
+use Rattle.ber_decode.specs.declared.Number.the-variants as number
+use Rattle.ber_decode.specs.declared.Span.{Span}
+use Rattle.ber_decode.specs.declared.Span.the-variants as span
+use Rattle.ber_decode.specs.declared.Width.{Width}
+use Rattle.ber_decode.specs.declared.Width.the-variants as width
+
+-- a tag with its length
+abbrev pub toldHead : Head → Out read.Head
+toldHead (head.Is t n c) = got (record { tag = t; len = n }) (c .at)
+toldHead (head.Refused r) = refused (r .number) (r .place)
+
+-- an integer
+abbrev pub toldNumber : Number → Out ℕ
+toldNumber (number.Value v c) = got v (c .at)
+toldNumber (number.Refused r) = refused (r .number) (r .place)
+
+-- octets of s
+abbrev pub toldSpan : List ℕ → Span → Out (List ℕ)
+toldSpan s (span.Octets a k c) = got (take k (drop a s)) (c .at)
+toldSpan s (span.Refused r) = refused (r .number) (r .place)
+
+-- the answer of a step that reads k octets from a place on: that place and k, and the place after them
+abbrev pub foundSpan : ℕ → ℕ → Out (List ℕ) → Span
+foundSpan at k (got l end) = span.Octets at k (record { at = end })
+foundSpan at k (refused n p) = span.Refused (record { number = n; place = p })
+
+-- the octets of a field
+abbrev pub octetsOf : Width → ℕ
+octetsOf width.One = 1
+octetsOf width.Two = 2
+octetsOf width.Four = 4
+
+-- the refusal of an answer that is one; of another, 0 at 0, which no refusal is
+abbrev pub noRefusal : Refusal
+noRefusal = record { number = 0; place = 0 }
+
+abbrev pub headRefusal : Head → Refusal
+headRefusal (head.Is t n c) = noRefusal
+headRefusal (head.Refused r) = r
+
+abbrev pub numberRefusal : Number → Refusal
+numberRefusal (number.Value v c) = noRefusal
+numberRefusal (number.Refused r) = r
+
+abbrev pub spanRefusal : Span → Refusal
+spanRefusal (span.Octets a k c) = noRefusal
+spanRefusal (span.Refused r) = r

@@ -1,0 +1,5 @@
+pub mod Answers
+pub mod Held
+pub mod Fields
+pub mod Groups
+pub mod Whole
