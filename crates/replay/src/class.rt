@@ -1,4 +1,7 @@
 // How an answer of this project stands to the Rust's: alike, or different for a reason that docs/DIFFERENCES.md has.
+use crate::octets::number16;
+use crate::octets::number64;
+use crate::octets::octet;
 use libc::STDOUT_FILENO;
 
 // The classes are below this.
@@ -16,6 +19,21 @@ pub const NOT_ASKED: usize = 3;
 // Nanoseconds of a fraction of 2^24 or more.
 pub const LARGE_FRACTION: usize = 4;
 
+// The Rust panics; ours is refusal 1 at the buffer length.
+pub const PANIC_AT_END: usize = 5;
+
+// The Rust's sum overflows; ours is refusal 7, place 0.
+pub const PANIC_NO_ROOM: usize = 6;
+
+// The same number; our place is 0.
+pub const PLACE_0: usize = 7;
+
+// Refusal 10 of the length writer, which leaves the tag behind in the Rust.
+pub const TAG_LEFT: usize = 8;
+
+// Statuses of an answer.
+pub const PANICKED: u8 = 2;
+
 fn say(text: &[u8]) {
     io::write_all(STDOUT_FILENO, text);
 }
@@ -27,6 +45,10 @@ pub fn print_name(class: usize) {
         2 => say(b"refused alike"),
         3 => say(b"the Rust can't be asked"),
         4 => say(b"fraction of 2^24 or more: nanoseconds of its low 24 bits"),
+        5 => say(b"the Rust panics: refused 1 at the buffer length"),
+        6 => say(b"the Rust panics: refused 7 at 0"),
+        7 => say(b"refused alike, at 0"),
+        8 => say(b"refused alike, the buffer as lent"),
         _ => say(b"no class"),
     }
 }
@@ -36,8 +58,27 @@ pub fn alike(ours: &[u8], theirs: &[u8]) -> usize {
     if !check::same(ours, theirs) {
         return UNEXPLAINED;
     }
-    if crate::octets::octet(ours, 0) == 1 {
+    if octet(ours, 0) == 1 {
         return REFUSED;
     }
     ANSWERED
+}
+
+// The class, where the octets are the same.
+pub fn same_or(ours: &[u8], theirs: &[u8], class: usize) -> usize {
+    if check::same(ours, theirs) {
+        return class;
+    }
+    UNEXPLAINED
+}
+
+// The class, where ours is refusal 1 at a place.
+pub fn at_end(ours: &[u8], place: usize, class: usize) -> usize {
+    if number16(ours, 0) != 257 {
+        return UNEXPLAINED;
+    }
+    if number64(ours, 2) != place {
+        return UNEXPLAINED;
+    }
+    class
 }

@@ -101,6 +101,13 @@ fn judge(kind: u8, request: &[u8], theirs: &[u8], ours: &mut [u8]) -> usize {
         b'd' => crate::of_types::timestamp(request, theirs, ours),
         b'n' => crate::of_types::nanoseconds(request, theirs, ours),
         b'w' => crate::of_types::timestamp_octets(request, theirs, ours),
+        b'c' => crate::of_scaling::count(request, theirs, ours),
+        b'v' => crate::of_scaling::value(request, theirs, ours),
+        b'k' => crate::of_scaling::le_92(theirs, ours),
+        b't' => crate::of_ber::head(request, theirs, ours),
+        b'r' => crate::of_ber::integer(request, theirs, ours),
+        b'l' => crate::of_ber::tag_length(request, theirs, ours),
+        b'u' => crate::of_ber::integer_octets(request, theirs, ours),
         _ => class::UNEXPLAINED,
     }
 }

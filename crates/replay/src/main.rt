@@ -3,7 +3,10 @@
 mod answer;
 mod class;
 mod line;
+mod numbers;
 mod octets;
+mod of_ber;
+mod of_scaling;
 mod of_types;
 
 use crate::octets::first;
