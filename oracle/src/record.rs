@@ -466,6 +466,25 @@ fn sizes(list: &mut List) {
     let samples = (0..8).map(|k| Sample { value: 1000 * k, ..Sample::default() }).collect();
     let pdu = pdu_of(vec![Asdu { samples, ..one_asdu() }]);
     list.add(b'f', asked(&le_92, &plain(&frame_header(), &pdu).octets));
+    eight_by_eight(list);
+}
+
+/// A tagged frame of eight ASDUs of eight channels with every optional field.
+fn eight_by_eight(list: &mut List) {
+    let asdus = (0..8u16).map(|number| Asdu {
+        sv_id: format!("MU{number}").into_bytes(),
+        smp_cnt: 3996 + number,
+        samples: (0..8u32)
+            .map(|channel| Sample {
+                value: (u32::from(number) * 8 + channel).wrapping_mul(12_345).wrapping_sub(300_000),
+                scale: 1.0f32.to_bits(),
+                quality: channel * 1023,
+            })
+            .collect(),
+        ..full_asdu()
+    });
+    let security = Some(vec![0x5e; 16]);
+    list.both(&tagged(), &Pdu { simulation: true, security, ..pdu_of(asdus.collect()) });
 }
 
 fn texts(list: &mut List) {

@@ -11,4 +11,5 @@ pub mod Placed
 pub mod Scaling
 pub mod Held
 pub mod Svread
+pub mod Numbers
 pub mod Table

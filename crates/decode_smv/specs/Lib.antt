@@ -1,0 +1,10 @@
+pub mod Told
+pub mod Over
+pub mod Samples
+pub mod Asdus
+pub mod Pdu
+pub mod NoAsdu
+pub mod Outcome
+pub mod Opening
+pub mod Reading
+pub mod Frame
