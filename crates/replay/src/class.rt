@@ -31,7 +31,27 @@ pub const PLACE_0: usize = 7;
 // Refusal 10 of the length writer, which leaves the tag behind in the Rust.
 pub const TAG_LEFT: usize = 8;
 
-// Statuses of an answer.
+// Alike, with text that isn't UTF-8: the Rust's is the lossy reading of ours.
+pub const LOSSY: usize = 9;
+
+// More than 24 channels: refused 8.
+pub const MANY_CHANNELS: usize = 10;
+
+// Refused 4, a limit that the Rust doesn't have: it answered, refused further on, or panicked further on.
+pub const LIMIT_ANSWERED: usize = 11;
+
+pub const LIMIT_REFUSED: usize = 12;
+
+pub const LIMIT_PANICKED: usize = 13;
+
+// The Rust panics: the header isn't whole; fewer than 8 octets of refrTm; gmIdentity above 8 octets.
+pub const PANIC_HEADER: usize = 14;
+
+pub const PANIC_REFR_TM: usize = 15;
+
+pub const PANIC_GM_IDENTITY: usize = 16;
+
+// The status of a panic.
 pub const PANICKED: u8 = 2;
 
 fn say(text: &[u8]) {
@@ -49,6 +69,14 @@ pub fn print_name(class: usize) {
         6 => say(b"the Rust panics: refused 7 at 0"),
         7 => say(b"refused alike, at 0"),
         8 => say(b"refused alike, the buffer as lent"),
+        9 => say(b"answered alike, text that isn't UTF-8"),
+        10 => say(b"more than 24 channels: refused 8"),
+        11 => say(b"above a limit: refused 4, the Rust answers"),
+        12 => say(b"above a limit: refused 4, the Rust refuses further on"),
+        13 => say(b"above a limit: refused 4, the Rust panics further on"),
+        14 => say(b"the Rust panics, header: refused 1 at the buffer length"),
+        15 => say(b"the Rust panics, refrTm: refused 1 at its first content octet"),
+        16 => say(b"the Rust panics, gmIdentity: refused 5"),
         _ => say(b"no class"),
     }
 }

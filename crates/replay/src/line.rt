@@ -108,6 +108,10 @@ fn judge(kind: u8, request: &[u8], theirs: &[u8], ours: &mut [u8]) -> usize {
         b'r' => crate::of_ber::integer(request, theirs, ours),
         b'l' => crate::of_ber::tag_length(request, theirs, ours),
         b'u' => crate::of_ber::integer_octets(request, theirs, ours),
+        b'f' => crate::of_reading::frame(request, theirs, ours),
+        b'p' => crate::of_reading::pdu(request, theirs, ours),
+        b'h' => crate::of_reading::header(request, theirs, ours),
+        b'i' => crate::of_reading::frame_test(request, theirs, ours),
         _ => class::UNEXPLAINED,
     }
 }

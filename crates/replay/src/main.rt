@@ -6,8 +6,11 @@ mod line;
 mod numbers;
 mod octets;
 mod of_ber;
+mod of_reading;
 mod of_scaling;
 mod of_types;
+mod reading_class;
+mod text;
 
 use crate::octets::first;
 use crate::octets::octet;
