@@ -44,7 +44,7 @@ fn limit(s: &[u8], theirs: &[u8], ours: &[u8]) -> usize {
     match octet(theirs, 0) {
         0 => class::LIMIT_ANSWERED,
         1 => {
-            if number64(theirs, 2) <= place {
+            if number64(theirs, 2) < place {
                 return class::UNEXPLAINED;
             }
             class::LIMIT_REFUSED
