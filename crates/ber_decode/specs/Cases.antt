@@ -3,12 +3,12 @@ use Prim.Native.Nat.{ℕ, zero, suc, _+_, _-_, _*_, _^_, _<_, _≤_}
 use native.Mathlib.Omega.{arith}
 use native.Mathlib.Nat.{pow-le-pow-right, add-zero}
 use native.Mathlib.Numerals.{add-one}
-use mathlib.Core.Path.{_≡_, refl, sym, ap, _∙_}
-use mathlib.Core.List.{List, []}
-use mathlib.Core.Bool.{Bool, true, false, cond}
+use mathlib.Core.Path.{_≡_, refl}
+use mathlib.Core.List.{List}
+use mathlib.Core.Bool.{Bool, true, false}
 use lib.ListN.{length, getD, take, drop}
-use lib.Dec.{ltb, leb, eqb, lit<}
-use borrow.Author.Tests.{le-leb, lt-leb, le-ltb, lt-ltb, eq-eqb, ne-eqb, ltb-true, ltb-false, leb-true, leb-false}
+use lib.Dec.{leb, eqb, lit<}
+use borrow.Author.Tests.{le-leb, lt-leb, le-ltb, lt-ltb, ne-eqb, leb-true, leb-false}
 use Rattle.definition.specs.Frame.{and}
 use Rattle.definition.specs.Read.{Out, got, refused, beAt, headAt, numberAt, spanAt, hasAt}
 use Rattle.definition.specs.Limits.{endsTooSoon, badLength, integerTooLong}

@@ -6,7 +6,6 @@ use lib.ListN.{take, drop}
 use Rattle.definition.specs.Read.{Out, got, refused}
 use Rattle.definition.specs.Read as read
 use Rattle.rt_services.specs.declared.Refusal.{Refusal}
-use Rattle.ber_decode.specs.declared.Cursor.{Cursor}
 use Rattle.ber_decode.specs.declared.Head.{Head}
 use Rattle.ber_decode.specs.declared.Head.the-variants as head
 use Rattle.ber_decode.specs.declared.Number.{Number}

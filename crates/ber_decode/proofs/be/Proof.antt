@@ -1,8 +1,7 @@
 -- be: the loop keeps that value is the number of the first i octets, below 256 ^ i, so that no product overflows.
-use Prim.Native.Nat.{ℕ, _≤_, _<_, _+_, _-_, _^_, _*_}
+use Prim.Native.Nat.{_≤_, _<_, _+_, _-_, _^_}
 use mathlib.Core.Path.{_≡_, ap, _∙_}
 use native.Mathlib.Omega.{arith}
-use lib.ListN.{length, getD}
 use Rattle.definition.specs.Read.{beAt}
 use Rattle.ber_decode.specs.Cases.{be-more, be-none, pow-three, digit-more}
 use Rattle.ber_decode.proofs.be.Statement.{statement}
