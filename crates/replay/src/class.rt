@@ -51,6 +51,26 @@ pub const PANIC_REFR_TM: usize = 15;
 
 pub const PANIC_GM_IDENTITY: usize = 16;
 
+// What can't be described here: half a VLAN tag; noASDU other than the number of ASDUs; numbers of samples that differ.
+pub const HALF_TAG: usize = 17;
+
+pub const OTHER_COUNT: usize = 18;
+
+pub const UNEVEN: usize = 19;
+
+// Refused 9, place 0: the Rust answers, refuses 7 or 11, or panics.
+pub const OUTSIDE_ANSWERED: usize = 20;
+
+pub const OUTSIDE_REFUSED: usize = 21;
+
+pub const OUTSIDE_PANICKED: usize = 22;
+
+// Refused 10: a PDU above 1,492 octets.
+pub const LONG_PDU: usize = 23;
+
+// Alike with bits 13 to 31 of quality words cleared; as they stand, refused 9.
+pub const WIDE_QUALITY: usize = 24;
+
 // The status of a panic.
 pub const PANICKED: u8 = 2;
 
@@ -77,6 +97,14 @@ pub fn print_name(class: usize) {
         14 => say(b"the Rust panics, header: refused 1 at the buffer length"),
         15 => say(b"the Rust panics, refrTm: refused 1 at its first content octet"),
         16 => say(b"the Rust panics, gmIdentity: refused 5"),
+        17 => say(b"half a VLAN tag: can't be described"),
+        18 => say(b"noASDU other than the number of ASDUs: can't be described"),
+        19 => say(b"numbers of samples that differ: can't be described"),
+        20 => say(b"outside the limits: refused 9, the Rust answers"),
+        21 => say(b"outside the limits: refused 9, the Rust refuses"),
+        22 => say(b"outside the limits: refused 9, the Rust panics"),
+        23 => say(b"PDU above 1,492 octets: refused 10"),
+        24 => say(b"answered alike, quality bits 13 to 31 cleared: refused 9 with them"),
         _ => say(b"no class"),
     }
 }

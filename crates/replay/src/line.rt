@@ -112,6 +112,8 @@ fn judge(kind: u8, request: &[u8], theirs: &[u8], ours: &mut [u8]) -> usize {
         b'p' => crate::of_reading::pdu(request, theirs, ours),
         b'h' => crate::of_reading::header(request, theirs, ours),
         b'i' => crate::of_reading::frame_test(request, theirs, ours),
+        b'e' => crate::of_writing::encode(request, theirs, ours),
+        b's' => crate::of_writing::size(request, theirs, ours),
         _ => class::UNEXPLAINED,
     }
 }

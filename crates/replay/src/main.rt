@@ -2,6 +2,7 @@
 // the Rust's, and prints how many lines there are of each kind and class.
 mod answer;
 mod class;
+mod description;
 mod line;
 mod numbers;
 mod octets;
@@ -9,8 +10,10 @@ mod of_ber;
 mod of_reading;
 mod of_scaling;
 mod of_types;
+mod of_writing;
 mod reading_class;
 mod text;
+mod writing_class;
 
 use crate::octets::first;
 use crate::octets::octet;
