@@ -68,12 +68,12 @@ pub fn security_length(request: &[u8]) -> usize {
 }
 
 pub fn records(request: &[u8]) -> usize {
-    number16(request, 29 + security_length(request)) as usize
+    number16(request, plus(29, security_length(request))) as usize
 }
 
 // The place of the first ASDU record.
 pub fn first_record(request: &[u8]) -> usize {
-    31 + security_length(request)
+    plus(31, security_length(request))
 }
 
 // The places in an ASDU record: the mark of datSet, smpCnt, and the number of samples.
