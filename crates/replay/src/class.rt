@@ -71,6 +71,9 @@ pub const LONG_PDU: usize = 23;
 // Alike with bits 13 to 31 of quality words cleared; as they stand, refused 9.
 pub const WIDE_QUALITY: usize = 24;
 
+// Alike by the writer of counts; ASDUs with different scale factors can't be described to the writer of values.
+pub const OTHER_SCALES: usize = 25;
+
 // The status of a panic.
 pub const PANICKED: u8 = 2;
 
@@ -105,6 +108,7 @@ pub fn print_name(class: usize) {
         22 => say(b"outside the limits: refused 9, the Rust panics"),
         23 => say(b"PDU above 1,492 octets: refused 10"),
         24 => say(b"answered alike, quality bits 13 to 31 cleared: refused 9 with them"),
+        25 => say(b"answered alike, scale factors that differ: by the writer of counts"),
         _ => say(b"no class"),
     }
 }

@@ -10,6 +10,7 @@ use rt_services::EthernetHeader;
 use rt_services::OptionalU16;
 use rt_services::Presence;
 use rt_services::SavAsdu;
+use rt_services::SavDataSetConfig;
 use rt_services::SavPdu;
 use rt_services::Vlan;
 use scaling::Counted;
@@ -152,6 +153,13 @@ fn asdu(request: &[u8], record: usize) -> SavAsdu {
     }
 }
 
+fn asdu_or_blank(request: &[u8], record: usize, there: bool) -> SavAsdu {
+    if there {
+        return asdu(request, record);
+    }
+    SavAsdu::BLANK
+}
+
 // The first eight ASDUs, and blank records after them.
 fn asdus(request: &[u8]) -> [SavAsdu; SavPdu::MAX_ASDUS] {
     let n = records(request);
@@ -159,9 +167,7 @@ fn asdus(request: &[u8]) -> [SavAsdu; SavPdu::MAX_ASDUS] {
     let mut at = first_record(request);
     let mut k = 0;
     while k < SavPdu::MAX_ASDUS {
-        if k < n {
-            held[k] = asdu(request, at);
-        }
+        held[k] = asdu_or_blank(request, at, k < n);
         at = next_record(request, at);
         k += 1;
     }
@@ -177,6 +183,43 @@ pub fn pdu(request: &[u8]) -> SavPdu {
         no_asdu: number16(request, 24),
         sim: octet(request, 23) == 1,
         security: presence(octet(request, 26)),
+    }
+}
+
+// The place of the first sample of an ASDU record; each has twelve octets.
+fn first_sample(request: &[u8], record: usize) -> usize {
+    plus(samples_at(request, record), 1)
+}
+
+// The scale factor of channel i of the first ASDU.
+fn scale(request: &[u8], i: usize) -> f32 {
+    if channels(request) <= i {
+        return 0.0;
+    }
+    let places = part(request, first_sample(request, first_record(request)), 3060);
+    if 254 < i {
+        return 0.0;
+    }
+    float_of(number32(places, 12 * i + 4))
+}
+
+// The data set of the first ASDU.
+pub fn data_set(request: &[u8]) -> SavDataSetConfig {
+    let mut scale_factor = [0.0; SavDataSetConfig::MAX_CHANNELS];
+    let mut i = 0;
+    while i < SavDataSetConfig::MAX_CHANNELS {
+        scale_factor[i] = scale(request, i);
+        i += 1;
+    }
+    SavDataSetConfig {
+        channels: channels(request),
+        scale_factor: scale_factor,
+    }
+}
+
+fn set_value(values: &mut [f32], at: usize, value: f32) {
+    if at < values.len() {
+        values[at] = value;
     }
 }
 
@@ -213,19 +256,26 @@ fn take_word(qualities: &mut [u32], words: &mut [u32], to: usize, word: u32) -> 
     2
 }
 
-// The sample at a place.
-fn take_sample(
+// The value at a place, and its count.
+fn take_value(
     request: &[u8],
     at: usize,
     to: usize,
+    values: &mut [f32],
     counts: &mut [i32],
-    qualities: &mut [u32],
-    words: &mut [u32],
 ) -> usize {
     let value = float_of(number32(request, at));
     let scale = float_of(number32(request, plus(at, 4)));
-    let counted = take_count(counts, to, scaling::count_of(value, scale));
-    counted | take_word(qualities, words, to, number32(request, plus(at, 8)))
+    set_value(values, to, value);
+    take_count(counts, to, scaling::count_of(value, scale))
+}
+
+// 4 where the samples at two places have different scale factors.
+fn other_scale(request: &[u8], at: usize, model: usize) -> usize {
+    if number32(request, plus(at, 4)) == number32(request, plus(model, 4)) {
+        return 0;
+    }
+    4
 }
 
 // The samples of the ASDU record at a place, to the elements from base on.
@@ -233,26 +283,33 @@ fn take_record(
     request: &[u8],
     record: usize,
     base: usize,
+    values: &mut [f32],
     counts: &mut [i32],
     qualities: &mut [u32],
     words: &mut [u32],
 ) -> usize {
     let n = samples(request, record);
-    let mut at = plus(samples_at(request, record), 1);
+    let mut model = first_sample(request, first_record(request));
+    let mut at = first_sample(request, record);
     let mut marks = 0;
     let mut i = 0;
     while i < n {
-        marks = marks | take_sample(request, at, plus(base, i), counts, qualities, words);
+        let to = plus(base, i);
+        marks = marks | other_scale(request, at, model);
+        marks = marks | take_value(request, at, to, values, counts);
+        marks = marks | take_word(qualities, words, to, number32(request, plus(at, 8)));
+        model = plus(model, 12);
         at = plus(at, 12);
         i += 1;
     }
     marks
 }
 
-// The counts of all values, and the quality words, ASDU by ASDU. The answer has 1 where a count can't be had, and 2 where a
-// quality word is of 2^13 or more.
+// All values with their counts, and the quality words, ASDU by ASDU. The answer has 1 where a count can't be had, 2 where a
+// quality word is of 2^13 or more, and 4 where a scale factor isn't that of the first ASDU.
 pub fn take_samples(
     request: &[u8],
+    values: &mut [f32],
     counts: &mut [i32],
     qualities: &mut [u32],
     words: &mut [u32],
@@ -263,7 +320,7 @@ pub fn take_samples(
     let mut marks = 0;
     let mut k = 0;
     while k < n {
-        marks = marks | take_record(request, at, base, counts, qualities, words);
+        marks = marks | take_record(request, at, base, values, counts, qualities, words);
         base = plus(base, samples(request, at));
         at = next_record(request, at);
         k += 1;

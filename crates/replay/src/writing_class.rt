@@ -89,6 +89,14 @@ fn outside(request: &[u8]) -> bool {
     has_long_text(request)
 }
 
+// The class, told apart where an ASDU has other scale factors than the first, so that only the writer of counts was asked.
+pub fn of_counts_alone(found: usize) -> usize {
+    if found == class::ANSWERED {
+        return class::OTHER_SCALES;
+    }
+    found
+}
+
 // The number of a refusal.
 pub fn refused_as(written: Written) -> usize {
     match written {
