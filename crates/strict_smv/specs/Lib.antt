@@ -3,3 +3,4 @@ pub mod Differ
 pub mod Again
 pub mod Record
 pub mod Strict
+pub mod Compositions
