@@ -1,11 +1,11 @@
 -- Octets written over a list from a position on, and the laws that writers compose by.
 use mathlib.Core.Path.{_≡_, refl, sym, ap, _∙_}
 use mathlib.Core.List.{List, [], _∷_, _++_, append-assoc, append-nil}
-use Prim.Native.Nat.{ℕ, zero, suc, _+_, _-_, _≤_, _<_}
-use native.Mathlib.Nat.{add-zero, add-suc, suc-add, add-assoc}
+use Prim.Native.Nat.{ℕ, suc, _+_, _-_, _≤_, _<_}
+use native.Mathlib.Nat.{add-zero}
 use native.Mathlib.Numerals.{add-one}
 use native.Mathlib.Omega.{arith}
-use lib.ListN.{length, take, drop, set, getD, length-set, length-append, length-drop, length-take, take-append-drop, drop-of-length-le}
+use lib.ListN.{length, take, drop, set, length-set, length-append, length-drop, length-take, take-append-drop, drop-of-length-le}
 use Rattle.definition.specs.Answers.{over}
 use lib.Seq.{sets, sets-eq, drop-set-add, take-set-le, set-comm, take-all}
 

@@ -1,6 +1,6 @@
 -- What the public writers answer and leave, case by case.
-use mathlib.Core.Path.{_≡_, refl, sym, ap, _∙_}
-use mathlib.Core.List.{List, [], _∷_, _++_}
+use mathlib.Core.Path.{_≡_, refl, ap, _∙_}
+use mathlib.Core.List.{List}
 use mathlib.Core.Bool.{Bool, true, false, cond}
 use Prim.Native.Nat.{ℕ, _+_, _≤_, _<_}
 use native.Mathlib.Omega.{arith}
@@ -8,8 +8,8 @@ use borrow.Author.Tests.{lt-ltb, le-ltb, le-leb, lt-leb, ltb-false, leb-false}
 use lib.ListN.{length}
 use lib.Dec.{ltb, leb}
 use Rattle.definition.specs.Limits.{lengthLimit, noRoom, tooLongToWrite}
-use Rattle.definition.specs.Answers.{Answer, accepted, refusal, refuse, over, leaves}
-use Rattle.ber_encode.specs.Put.{put, Wrote, put-over}
+use Rattle.definition.specs.Answers.{Answer, accepted, refusal, refuse, leaves}
+use Rattle.ber_encode.specs.Put.{Wrote, put-over}
 use Rattle.ber_encode.specs.declared.Written.{Written}
 use Rattle.ber_encode.specs.declared.Written.the-variants.{At, Refused}
 

@@ -2,9 +2,9 @@
 // room; the `encode_` ones ask for it first.
 use rt_services::Refusal;
 ghost use mathlib.Core.Path.{_≡_};
-ghost use mathlib.Core.List.{_++_, _∷_, []};
-ghost use Prim.Native.Nat.{ℕ, _+_, _-_, _*_, _/_, _%_, _^_, _≤_, _<_};
-ghost use lib.ListN.{length, take, drop};
+ghost use mathlib.Core.List.{_∷_};
+ghost use Prim.Native.Nat.{_+_, _-_, _/_, _%_, _≤_, _<_};
+ghost use lib.ListN.{length};
 ghost use Rattle.definition.specs.Limits.{lengthLimit};
 ghost use Rattle.definition.specs.Octets.{octets, lengthMore, lengthOctets, uintSize, uintOctets, tlv};
 ghost use Rattle.definition.specs.Held.{heldOctets};

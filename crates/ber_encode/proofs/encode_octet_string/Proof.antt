@@ -1,5 +1,5 @@
 -- `ber_encode::encode_octet_string` meets its contract: it asks for the refusal of all its octets, and writes them where there is none. Assumes nothing.
-use mathlib.Core.Path.{_≡_, sym, ap, _∙_}
+use mathlib.Core.Path.{_≡_, sym, _∙_}
 use Prim.Native.Nat.{_+_}
 use native.Mathlib.Omega.{arith}
 use borrow.Author.Needs.{needs}

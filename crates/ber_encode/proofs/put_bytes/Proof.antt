@@ -1,12 +1,12 @@
 -- `ber_encode::put_bytes` meets its contract. The loop's invariant: the first i octets are written. Assumes nothing.
-use mathlib.Core.Path.{_≡_, refl, sym, ap, _∙_, subst}
-use mathlib.Core.List.{List, [], _∷_, _++_, append-assoc, append-nil}
-use Prim.Native.Nat.{ℕ, suc, _+_, _-_, _/_, _%_, _≤_, _<_}
+use mathlib.Core.Path.{_≡_, refl, ap, _∙_}
+use mathlib.Core.List.{List}
+use Prim.Native.Nat.{ℕ, _+_, _-_, _≤_, _<_}
 use native.Mathlib.Numerals.{add-one}
 use native.Mathlib.Omega.{arith}
-use lib.ListN.{length, set, take, getD, length-set}
+use lib.ListN.{length, take, getD, length-set}
 use lib.Seq.{take-suc, take-length, length-take-le}
-use Rattle.ber_encode.specs.Put.{put, Wrote, put-back, length-put}
+use Rattle.ber_encode.specs.Put.{put, put-back}
 use Rattle.ber_encode.proofs.put_bytes.Statement.{statement}
 use Rattle.ber_encode.proofs.put_bytes.Tie as tie
 

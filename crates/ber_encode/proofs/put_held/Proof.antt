@@ -1,10 +1,8 @@
 -- `ber_encode::put_held` meets its contract: the array is long enough, so the octets that it holds are its first ones. Assumes nothing.
-use mathlib.Core.Path.{_≡_, sym, ap}
+use mathlib.Core.Path.{sym}
 use native.Mathlib.Omega.{arith}
-use lib.ListN.{length, take}
 use lib.Seq.{length-take-le}
 use Rattle.definition.specs.Held.{firstOf-take}
-use Rattle.definition.specs.Octets.{tlv}
 use borrow.Author.Needs.{needs}
 use Rattle.ber_encode.proofs.put_held.Statement.{statement}
 use Rattle.ber_encode.proofs.put_held.Tie as tie

@@ -2,11 +2,11 @@
 -- octets of what is left make the whole. Assumes nothing.
 use mathlib.Core.Path.{_≡_, refl, sym, ap, _∙_, subst}
 use mathlib.Core.List.{List, [], _∷_, _++_, append-assoc, append-nil}
-use Prim.Native.Nat.{ℕ, suc, _+_, _-_, _/_, _%_, _≤_, _<_}
+use Prim.Native.Nat.{ℕ, suc, _+_, _-_, _/_, _%_, _≤_}
 use native.Mathlib.Nat.{add-zero}
 use native.Mathlib.Omega.{arith}
 use lib.ListN.{length, set, length-set}
-use Rattle.ber_encode.specs.Put.{put, Wrote, put-front, length-put}
+use Rattle.ber_encode.specs.Put.{put, put-front}
 use Rattle.definition.specs.Octets.{octets, length-octets}
 use Rattle.ber_encode.proofs.put_octets.Statement.{statement}
 use Rattle.ber_encode.proofs.put_octets.Tie as tie

@@ -1,6 +1,4 @@
 -- `ber_encode::put_string` meets its contract: tag and length, then the content. Assumes nothing.
-use mathlib.Core.List.{List, [], _∷_, _++_}
-use Prim.Native.Nat.{ℕ, _+_}
 use native.Mathlib.Omega.{arith}
 use lib.ListN.{length}
 use Rattle.ber_encode.specs.Put.{andThen}

@@ -1,11 +1,10 @@
 -- `ber_encode::put_tag_length` meets its contract: the tag, the first length octet, then the octets of the length. Assumes nothing.
-use mathlib.Core.Path.{_≡_, refl, sym, ap, _∙_}
-use mathlib.Core.List.{List, [], _∷_, _++_}
-use Prim.Native.Nat.{ℕ, _+_}
+use mathlib.Core.Path.{_∙_}
+use Prim.Native.Nat.{_+_}
 use native.Mathlib.Omega.{arith}
-use lib.ListN.{length, length-set}
-use Rattle.ber_encode.specs.Put.{put, Wrote, andThen, one-wrote}
-use Rattle.definition.specs.Octets.{lengthMore, lengthMore-le, length-short, length-long}
+use lib.ListN.{length-set}
+use Rattle.ber_encode.specs.Put.{andThen, one-wrote}
+use Rattle.definition.specs.Octets.{lengthMore-le, length-short, length-long}
 use Rattle.ber_encode.specs.Size.{size-short, size-long}
 use borrow.Author.Needs.{needs}
 use Rattle.ber_encode.proofs.put_tag_length.Statement.{statement}

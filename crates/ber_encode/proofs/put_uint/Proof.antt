@@ -1,11 +1,8 @@
 -- `ber_encode::put_uint` meets its contract: tag and length, then the content. Assumes nothing.
-use mathlib.Core.Path.{_≡_, refl, sym, ap, _∙_}
-use mathlib.Core.List.{List, [], _∷_, _++_}
-use Prim.Native.Nat.{ℕ, _+_}
+use mathlib.Core.Path.{ap}
 use native.Mathlib.Omega.{arith}
-use lib.ListN.{length}
 use Rattle.ber_encode.specs.Put.{andThen}
-use Rattle.definition.specs.Octets.{tlv, uintOctets, uintSize, uintSize-le}
+use Rattle.definition.specs.Octets.{uintSize-le}
 use Rattle.ber_encode.specs.Size.{tlv-uint, lengthSize, uint-room, length-lengthOctets}
 use borrow.Author.Needs.{needs}
 use Rattle.ber_encode.proofs.put_uint.Statement.{statement}

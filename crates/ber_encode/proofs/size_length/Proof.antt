@@ -1,8 +1,8 @@
 -- `ber_encode::size_length` meets its contract: its test is the definition's. Assumes nothing.
-use mathlib.Core.Path.{_≡_, refl, sym, ap, _∙_}
+use mathlib.Core.Path.{sym, ap, _∙_}
 use Prim.Native.Nat.{ℕ, _+_}
 use native.Mathlib.Omega.{arith}
-use Rattle.definition.specs.Octets.{lengthMore, lengthMore-le}
+use Rattle.definition.specs.Octets.{lengthMore-le}
 use Rattle.ber_encode.specs.Size.{size-short, size-long}
 use borrow.Author.Needs.{needs}
 use Rattle.ber_encode.proofs.size_length.Statement.{statement}

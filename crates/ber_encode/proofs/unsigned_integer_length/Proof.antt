@@ -1,6 +1,6 @@
 -- `ber_encode::unsigned_integer_length` meets its contract: the significant bits are 32 less the leading zero bits, and one octet more than
 -- their whole octets leaves the first bit 0. Assumes nothing.
-use mathlib.Core.Path.{_≡_, refl, sym, ap, _∙_, subst}
+use mathlib.Core.Path.{_≡_}
 use mathlib.Core.Logic.{_⊎_, inl, inr}
 use Prim.Native.Nat.{ℕ, suc, _+_, _-_, _*_, _/_, _^_, _≤_, _<_}
 use native.Mathlib.Omega.{arith}
