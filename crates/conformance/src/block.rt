@@ -72,13 +72,23 @@ fn found(got: SavRead, channels: usize, counts: &[i32], qualities: &[u32]) {
     describe::description(header, pdu, channels, counts, qualities);
 }
 
-fn ordinary(s: &[u8], channels: usize) {
+// What strict reading answers; where it accepts, it hands back what ordinary reading does.
+fn strict(s: &[u8], channels: usize) {
+    let mut counts = [0; SavDataSetConfig::MAX_SAMPLES];
+    let mut qualities = [0; SavDataSetConfig::MAX_SAMPLES];
+    let got = strict_smv::read_strict(s, channels, &mut counts, &mut qualities);
+    answered(b"strict", got.number, got.place);
+}
+
+// What both readings answer, and what is found.
+fn readings(s: &[u8], channels: usize) {
     let mut count_space = [0; SavDataSetConfig::MAX_SAMPLES];
     let counts: &mut [i32] = &mut count_space;
     let mut quality_space = [0; SavDataSetConfig::MAX_SAMPLES];
     let qualities: &mut [u32] = &mut quality_space;
     let got = decode_smv::read_frame(s, channels, counts, qualities);
     answered(b"ordinary", got.number, got.place);
+    strict(s, channels);
     if got.number == 0 {
         found(got, channels, counts, qualities);
     }
@@ -89,5 +99,5 @@ pub fn read(name: &[u8], channels: usize, s: &[u8]) {
     title(b"read ", name);
     describe::number(b"channels", channels);
     describe::octets(b"octets", s, s.len());
-    ordinary(s, channels);
+    readings(s, channels);
 }

@@ -37,8 +37,10 @@ fn print_format() {
     say(b"# read NAME          what reading octets answers; arrays are long enough\n");
     say(b"#   channels N         the number of channels that is asked for\n");
     say(b"#   octets HEX         the input\n");
-    say(b"#   ordinary accepted, length N as it was read and the lines of the description, or\n");
-    say(b"#   ordinary refused N P, the refusal's number and place\n");
+    say(b"#   ordinary accepted, or ordinary refused N P, the refusal's number and place\n");
+    say(b"#   strict accepted, or strict refused N P, and where ordinary reading accepts\n");
+    say(b"#   length N           Length as it was read\n");
+    say(b"#   the lines of the description that was read\n");
     say(b"#\n");
 }
 

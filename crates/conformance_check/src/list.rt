@@ -36,12 +36,12 @@ pub const SAMPLES: usize = 11;
 
 pub const OCTETS: usize = 12;
 
-// Number and place of the refusal; 0 where it is accepted.
-pub const NUMBER: usize = 13;
+// Number and, after it, place of the refusal by ordinary and by strict reading; 0 where it accepts.
+pub const ORDINARY: usize = 13;
 
-pub const PLACE: usize = 14;
+pub const STRICT: usize = 15;
 
-pub const NUMBERS: usize = 15;
+pub const NUMBERS: usize = 17;
 
 // Places among the values: nine fields for each of eight ASDUs, then count and quality word of each
 // sample.
@@ -89,8 +89,10 @@ fn start_block(kind: usize, numbers: &mut [usize]) {
     set(numbers, ASDUS, 0);
     set(numbers, SAMPLES, 0);
     set(numbers, OCTETS, 0);
-    set(numbers, NUMBER, 0);
-    set(numbers, PLACE, 0);
+    set(numbers, ORDINARY, 0);
+    set(numbers, ORDINARY + 1, 0);
+    set(numbers, STRICT, 0);
+    set(numbers, STRICT + 1, 0);
 }
 
 // The number after a word.
@@ -98,11 +100,11 @@ fn second(text: &[u8]) -> usize {
     number(word(rest(text)))
 }
 
-// An answer of ordinary reading: accepted, or refused with number and place.
-fn take_answer(text: &[u8], numbers: &mut [usize]) {
+// The answer of a reading: accepted, or refused with number and place.
+fn take_answer(text: &[u8], at: usize, numbers: &mut [usize]) {
     if same(word(text), b"refused") {
-        set(numbers, NUMBER, second(text));
-        set(numbers, PLACE, second(rest(text)));
+        set(numbers, at, second(text));
+        set(numbers, plus(at, 1), second(rest(text)));
     }
 }
 
@@ -228,7 +230,11 @@ fn take_other(line: &[u8], numbers: &mut [usize], octets: &mut [u8]) {
         return;
     }
     if same(w, b"ordinary") {
-        take_answer(rest(line), numbers);
+        take_answer(rest(line), ORDINARY, numbers);
+        return;
+    }
+    if same(w, b"strict") {
+        take_answer(rest(line), STRICT, numbers);
     }
 }
 

@@ -127,25 +127,41 @@ fn is_found(
         && samples_are(counts, qualities, get(numbers, list::SAMPLES), values)
 }
 
+// Whether a reading's answer is the one that the block says.
+fn answer_is(number: usize, place: usize, at: usize, numbers: &[usize]) -> bool {
+    number == get(numbers, at) && place == get(numbers, plus(at, 1))
+}
+
+// Whether strict reading answers what the block says; it accepts what a writer wrote.
+fn strict_is(s: &[u8], channels: usize, numbers: &[usize]) -> bool {
+    let mut counts = [0; SavDataSetConfig::MAX_SAMPLES];
+    let mut qualities = [0; SavDataSetConfig::MAX_SAMPLES];
+    let got = strict_smv::read_strict(s, channels, &mut counts, &mut qualities);
+    answer_is(got.number, got.place, list::STRICT, numbers)
+}
+
+// Whether ordinary reading answers and finds what the block says.
+fn ordinary_is(s: &[u8], channels: usize, numbers: &[usize], values: &[usize]) -> bool {
+    let mut count_space = [0; SavDataSetConfig::MAX_SAMPLES];
+    let counts: &mut [i32] = &mut count_space;
+    let mut quality_space = [0; SavDataSetConfig::MAX_SAMPLES];
+    let qualities: &mut [u32] = &mut quality_space;
+    let got = decode_smv::read_frame(s, channels, counts, qualities);
+    if !answer_is(got.number, got.place, list::ORDINARY, numbers) {
+        return false;
+    }
+    if got.number != 0 {
+        return true;
+    }
+    is_found(got, counts, qualities, numbers, values)
+}
+
 // Whether a block differs from what reading its octets answers. A refused description has none.
 pub fn differs(numbers: &[usize], values: &[usize], octets: &[u8]) -> bool {
     if get(numbers, list::KIND) == list::REFUSED {
         return false;
     }
-    let mut count_space = [0; SavDataSetConfig::MAX_SAMPLES];
-    let counts: &mut [i32] = &mut count_space;
-    let mut quality_space = [0; SavDataSetConfig::MAX_SAMPLES];
-    let qualities: &mut [u32] = &mut quality_space;
+    let channels = get(numbers, list::CHANNELS);
     let s = first(octets, get(numbers, list::OCTETS));
-    let got = decode_smv::read_frame(s, get(numbers, list::CHANNELS), counts, qualities);
-    if got.number != get(numbers, list::NUMBER) {
-        return true;
-    }
-    if got.place != get(numbers, list::PLACE) {
-        return true;
-    }
-    if got.number != 0 {
-        return false;
-    }
-    !is_found(got, counts, qualities, numbers, values)
+    !(ordinary_is(s, channels, numbers, values) && strict_is(s, channels, numbers))
 }

@@ -1,0 +1,144 @@
+// How an answer of this project stands to the Rust's: alike, or different for a reason that docs/DIFFERENCES.md has.
+use crate::octets::number16;
+use crate::octets::number64;
+use crate::octets::octet;
+use libc::STDOUT_FILENO;
+
+// The classes are below this.
+pub const CLASSES: usize = 32;
+
+pub const UNEXPLAINED: usize = 0;
+
+pub const ANSWERED: usize = 1;
+
+pub const REFUSED: usize = 2;
+
+// The Rust can't be asked.
+pub const NOT_ASKED: usize = 3;
+
+// Nanoseconds of a fraction of 2^24 or more.
+pub const LARGE_FRACTION: usize = 4;
+
+// The Rust panics; ours is refusal 1 at the buffer length.
+pub const PANIC_AT_END: usize = 5;
+
+// The Rust's sum overflows; ours is refusal 7, place 0.
+pub const PANIC_NO_ROOM: usize = 6;
+
+// The same number; our place is 0.
+pub const PLACE_0: usize = 7;
+
+// Refusal 10 of the length writer, which leaves the tag behind in the Rust.
+pub const TAG_LEFT: usize = 8;
+
+// Alike, with text that isn't UTF-8: the Rust's is the lossy reading of ours.
+pub const LOSSY: usize = 9;
+
+// More than 24 channels: refused 8.
+pub const MANY_CHANNELS: usize = 10;
+
+// Refused 4, a limit that the Rust doesn't have: it answered, refused further on, or panicked further on.
+pub const LIMIT_ANSWERED: usize = 11;
+
+pub const LIMIT_REFUSED: usize = 12;
+
+pub const LIMIT_PANICKED: usize = 13;
+
+// The Rust panics: the header isn't whole; fewer than 8 octets of refrTm; gmIdentity above 8 octets.
+pub const PANIC_HEADER: usize = 14;
+
+pub const PANIC_REFR_TM: usize = 15;
+
+pub const PANIC_GM_IDENTITY: usize = 16;
+
+// What can't be described here: half a VLAN tag; noASDU other than the number of ASDUs; numbers of samples that differ.
+pub const HALF_TAG: usize = 17;
+
+pub const OTHER_COUNT: usize = 18;
+
+pub const UNEVEN: usize = 19;
+
+// Refused 9, place 0: the Rust answers, refuses 7 or 11, or panics.
+pub const OUTSIDE_ANSWERED: usize = 20;
+
+pub const OUTSIDE_REFUSED: usize = 21;
+
+pub const OUTSIDE_PANICKED: usize = 22;
+
+// Refused 10: a PDU above 1,492 octets.
+pub const LONG_PDU: usize = 23;
+
+// Alike with bits 13 to 31 of quality words cleared; as they stand, refused 9.
+pub const WIDE_QUALITY: usize = 24;
+
+// Alike by the writer of counts; ASDUs with different scale factors can't be described to the writer of values.
+pub const OTHER_SCALES: usize = 25;
+
+// The status of a panic.
+pub const PANICKED: u8 = 2;
+
+fn say(text: &[u8]) {
+    io::write_all(STDOUT_FILENO, text);
+}
+
+pub fn print_name(class: usize) {
+    match class {
+        0 => say(b"unexplained"),
+        1 => say(b"answered alike"),
+        2 => say(b"refused alike"),
+        3 => say(b"the Rust can't be asked"),
+        4 => say(b"fraction of 2^24 or more: nanoseconds of its low 24 bits"),
+        5 => say(b"the Rust panics: refused 1 at the buffer length"),
+        6 => say(b"the Rust panics: refused 7 at 0"),
+        7 => say(b"refused alike, at 0"),
+        8 => say(b"refused alike, the buffer as lent"),
+        9 => say(b"answered alike, text that isn't UTF-8"),
+        10 => say(b"more than 24 channels: refused 8"),
+        11 => say(b"above a limit: refused 4, the Rust answers"),
+        12 => say(b"above a limit: refused 4, the Rust refuses further on"),
+        13 => say(b"above a limit: refused 4, the Rust panics further on"),
+        14 => say(b"the Rust panics, header: refused 1 at the buffer length"),
+        15 => say(b"the Rust panics, refrTm: refused 1 at its first content octet"),
+        16 => say(b"the Rust panics, gmIdentity: refused 5"),
+        17 => say(b"half a VLAN tag: can't be described"),
+        18 => say(b"noASDU other than the number of ASDUs: can't be described"),
+        19 => say(b"numbers of samples that differ: can't be described"),
+        20 => say(b"outside the limits: refused 9, the Rust answers"),
+        21 => say(b"outside the limits: refused 9, the Rust refuses"),
+        22 => say(b"outside the limits: refused 9, the Rust panics"),
+        23 => say(b"PDU above 1,492 octets: refused 10"),
+        24 => say(b"answered alike, quality bits 13 to 31 cleared: refused 9 with them"),
+        25 => say(b"answered alike, scale factors that differ: by the writer of counts"),
+        _ => say(b"no class"),
+    }
+}
+
+// The class of two answers that have to be the same.
+pub fn alike(ours: &[u8], theirs: &[u8]) -> usize {
+    if !check::same(ours, theirs) {
+        return UNEXPLAINED;
+    }
+    if octet(ours, 0) == 1 {
+        return REFUSED;
+    }
+    ANSWERED
+}
+
+// The class, where the octets are the same.
+pub fn same_or(ours: &[u8], theirs: &[u8], class: usize) -> usize {
+    if check::same(ours, theirs) {
+        return class;
+    }
+    UNEXPLAINED
+}
+
+// The class, where ours is refusal 1 at a place.
+pub fn at_end(ours: &[u8], place: usize, class: usize) -> usize {
+    if number16(ours, 0) != 257 {
+        return UNEXPLAINED;
+    }
+    if number64(ours, 2) != place {
+        return UNEXPLAINED;
+    }
+    class
+}

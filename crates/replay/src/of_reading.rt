@@ -1,0 +1,324 @@
+// The kinds f, p, h and i: the frame reader, decode_smv, the header, and the frame test.
+use crate::answer::put;
+use crate::answer::put_mark;
+use crate::answer::put_octets;
+use crate::answer::put_refusal;
+use crate::answer::put16;
+use crate::answer::put32;
+use crate::answer::put64;
+use crate::class;
+use crate::numbers::bits_of;
+use crate::numbers::float_of;
+use crate::numbers::word_of;
+use crate::octets::after;
+use crate::octets::first;
+use crate::octets::less;
+use crate::octets::number32;
+use crate::octets::number64;
+use crate::octets::octet;
+use crate::octets::part;
+use crate::octets::plus;
+use crate::reading_class;
+use crate::text;
+use decode_smv::SavRead;
+use ethernet_header::HeaderEnd;
+use rt_services::EthernetHeader;
+use rt_services::OptionalU16;
+use rt_services::Presence;
+use rt_services::SavAsdu;
+use rt_services::SavPdu;
+use rt_services::Vlan;
+
+fn put_vlan(out: &mut [u8], at: usize, vlan: Vlan) -> usize {
+    match vlan {
+        Vlan::Untagged => {
+            let at = put(out, at, 0);
+            put32(out, at, 0)
+        }
+        Vlan::Tagged(tpid, tci) => {
+            let at = put(out, at, 1);
+            let at = put16(out, at, tpid);
+            put16(out, at, tci)
+        }
+    }
+}
+
+fn put_header(out: &mut [u8], at: usize, h: EthernetHeader) -> usize {
+    let destination = h.dst_addr;
+    let source = h.src_addr;
+    let vlan = h.vlan;
+    let at = put_octets(out, at, &destination);
+    let at = put_octets(out, at, &source);
+    let at = put_vlan(out, at, vlan);
+    let at = put16(out, at, h.ether_type);
+    let at = put16(out, at, h.appid);
+    put16(out, at, h.length)
+}
+
+fn put_length(out: &mut [u8], at: usize, n: usize) -> usize {
+    put16(out, at, (n % 65536) as u16)
+}
+
+// A text: its length, and its lossy UTF-8 reading.
+fn put_text(out: &mut [u8], at: usize, s: &[u8]) -> usize {
+    let start = plus(at, 2);
+    let end = text::put_lossy(out, start, s);
+    put_length(out, at, less(end, start));
+    end
+}
+
+fn put_presence(out: &mut [u8], at: usize, presence: Presence) -> usize {
+    match presence {
+        Presence::Absent => put(out, at, 0),
+        Presence::Present => put(out, at, 1),
+    }
+}
+
+fn put_security(out: &mut [u8], at: usize, presence: Presence, s: &[u8]) -> usize {
+    let at = put_presence(out, at, presence);
+    let at = put_length(out, at, s.len());
+    put_octets(out, at, s)
+}
+
+fn put_optional_text(out: &mut [u8], at: usize, presence: Presence, s: &[u8]) -> usize {
+    let at = put_presence(out, at, presence);
+    put_text(out, at, s)
+}
+
+fn put_optional_eight(out: &mut [u8], at: usize, presence: Presence, s: [u8; 8]) -> usize {
+    let at = put_presence(out, at, presence);
+    put_octets(out, at, &s)
+}
+
+fn put_optional16(out: &mut [u8], at: usize, number: OptionalU16) -> usize {
+    match number {
+        OptionalU16::Absent => {
+            let at = put(out, at, 0);
+            put16(out, at, 0)
+        }
+        OptionalU16::Present(v) => {
+            let at = put(out, at, 1);
+            put16(out, at, v)
+        }
+    }
+}
+
+fn put_texts(out: &mut [u8], at: usize, a: SavAsdu) -> usize {
+    let sv_id = a.msv_id;
+    let dat_set = a.dat_set_octets;
+    let presence = a.dat_set;
+    let at = put_text(out, at, first(&sv_id, a.msv_id_len));
+    put_optional_text(out, at, presence, first(&dat_set, a.dat_set_len))
+}
+
+fn put_fields(out: &mut [u8], at: usize, a: SavAsdu) -> usize {
+    let refr_tm = a.refr_tm;
+    let refr_tm_octets = a.refr_tm_octets;
+    let smp_rate = a.smp_rate;
+    let smp_mod = a.smp_mod;
+    let gm_identity = a.gm_identity;
+    let gm_identity_octets = a.gm_identity_octets;
+    let at = put16(out, at, a.smp_cnt);
+    let at = put32(out, at, a.conf_rev);
+    let at = put_optional_eight(out, at, refr_tm, refr_tm_octets);
+    let at = put(out, at, a.smp_synch);
+    let at = put_optional16(out, at, smp_rate);
+    let at = put_optional16(out, at, smp_mod);
+    put_optional_eight(out, at, gm_identity, gm_identity_octets)
+}
+
+fn count_at(counts: &[i32], at: usize) -> i32 {
+    if at < counts.len() {
+        return counts[at];
+    }
+    0
+}
+
+fn word_at(words: &[u32], at: usize) -> u32 {
+    if at < words.len() {
+        return words[at];
+    }
+    0
+}
+
+// A sample: the value of its count, its scale factor as the request has it, and its quality word.
+fn put_sample(out: &mut [u8], at: usize, scale: u32, count: i32, quality: u32) -> usize {
+    let at = put32(out, at, bits_of(scaling::value_of(count, float_of(scale))));
+    let at = put32(out, at, scale);
+    put32(out, at, quality)
+}
+
+// The samples of one ASDU, whose first stands at base in the arrays. The scale factors have four octets each.
+fn put_samples(
+    out: &mut [u8],
+    at: usize,
+    scales: &[u8],
+    counts: &[i32],
+    qualities: &[u32],
+    base: usize,
+) -> usize {
+    let channels = scales.len() / 4;
+    let mut to = put(out, at, (channels % 256) as u8);
+    let mut i = 0;
+    while i < channels {
+        let sample = plus(base, i);
+        to = put_sample(
+            out,
+            to,
+            number32(scales, 4 * i),
+            count_at(counts, sample),
+            word_at(qualities, sample),
+        );
+        i += 1;
+    }
+    to
+}
+
+fn put_asdu(
+    out: &mut [u8],
+    at: usize,
+    a: SavAsdu,
+    scales: &[u8],
+    counts: &[i32],
+    qualities: &[u32],
+    base: usize,
+) -> usize {
+    let at = put_texts(out, at, a);
+    let at = put_fields(out, at, a);
+    put_samples(out, at, scales, counts, qualities, base)
+}
+
+fn put_asdus(
+    out: &mut [u8],
+    at: usize,
+    r: SavRead,
+    scales: &[u8],
+    counts: &[i32],
+    qualities: &[u32],
+) -> usize {
+    let n = r.no_asdu as usize;
+    if SavPdu::MAX_ASDUS < n {
+        return at;
+    }
+    let mut to = at;
+    let mut base = 0;
+    let mut k = 0;
+    while k < n {
+        let a = r.sav_asdu[k];
+        to = put_asdu(out, to, a, scales, counts, qualities, base);
+        base = plus(base, scales.len() / 4);
+        k += 1;
+    }
+    to
+}
+
+fn put_pdu(
+    out: &mut [u8],
+    at: usize,
+    r: SavRead,
+    scales: &[u8],
+    counts: &[i32],
+    qualities: &[u32],
+) -> usize {
+    let security = r.security;
+    let octets = r.security_octets;
+    let at = put_mark(out, at, r.sim);
+    let at = put16(out, at, r.no_asdu);
+    let at = put_security(out, at, security, first(&octets, r.security_len));
+    let at = put16(out, at, r.no_asdu);
+    put_asdus(out, at, r, scales, counts, qualities)
+}
+
+// Whether the texts of an ASDU are UTF-8.
+fn texts_utf8(a: SavAsdu) -> bool {
+    let sv_id = a.msv_id;
+    let dat_set = a.dat_set_octets;
+    if !text::is_utf8(first(&sv_id, a.msv_id_len)) {
+        return false;
+    }
+    text::is_utf8(first(&dat_set, a.dat_set_len))
+}
+
+// Whether all texts are UTF-8; a record past noASDU has none.
+fn all_utf8(r: SavRead) -> bool {
+    let mut k = 0;
+    while k < SavPdu::MAX_ASDUS {
+        let a = r.sav_asdu[k];
+        if !texts_utf8(a) {
+            return false;
+        }
+        k += 1;
+    }
+    true
+}
+
+// The class of two answers: those that are alike are told apart by whether their texts are UTF-8.
+fn class_of(s: &[u8], channels: usize, theirs: &[u8], ours: &[u8], r: SavRead) -> usize {
+    let found = reading_class::class_of(s, channels, theirs, ours);
+    if found != class::ANSWERED {
+        return found;
+    }
+    if all_utf8(r) {
+        return class::ANSWERED;
+    }
+    class::LOSSY
+}
+
+pub fn frame(request: &[u8], theirs: &[u8], out: &mut [u8]) -> usize {
+    let mut counts = [0i32; 192];
+    let mut qualities = [0u32; 192];
+    let channels = octet(request, 0) as usize;
+    let scales = part(request, 1, 4 * channels);
+    let s = after(request, 1 + 4 * channels);
+    let r = decode_smv::read_frame(s, channels, &mut counts, &mut qualities);
+    if r.number != 0 {
+        let at = put_refusal(out, r.number, r.place);
+        return class_of(s, channels, theirs, first(out, at), r);
+    }
+    let header = r.header;
+    let at = put(out, 0, 0);
+    let at = put_header(out, at, header);
+    let at = put_pdu(out, at, r, scales, &counts, &qualities);
+    class_of(s, channels, theirs, first(out, at), r)
+}
+
+pub fn pdu(request: &[u8], theirs: &[u8], out: &mut [u8]) -> usize {
+    let mut counts = [0i32; 192];
+    let mut qualities = [0u32; 192];
+    let start = number64(request, 0);
+    let channels = octet(request, 8) as usize;
+    let scales = part(request, 9, 4 * channels);
+    let s = after(request, 9 + 4 * channels);
+    let r = decode_smv::decode_smv(s, start, channels, &mut counts, &mut qualities);
+    if r.number != 0 {
+        let at = put_refusal(out, r.number, r.place);
+        return class_of(s, channels, theirs, first(out, at), r);
+    }
+    let at = put(out, 0, 0);
+    let at = put_pdu(out, at, r, scales, &counts, &qualities);
+    class_of(s, channels, theirs, first(out, at), r)
+}
+
+pub fn header(request: &[u8], theirs: &[u8], out: &mut [u8]) -> usize {
+    let found = ethernet_header::decode_ethernet_header(request);
+    let step = found.outcome;
+    let HeaderEnd::Next(next) = step else {
+        let refusal = step.refusal();
+        let at = put_refusal(out, refusal.number, refusal.place);
+        if octet(theirs, 0) == class::PANICKED {
+            return class::at_end(first(out, at), request.len(), class::PANIC_AT_END);
+        }
+        return class::UNEXPLAINED;
+    };
+    let header = found.header;
+    let at = put(out, 0, 0);
+    let at = put_header(out, at, header);
+    let at = put64(out, at, next.at);
+    class::alike(first(out, at), theirs)
+}
+
+pub fn frame_test(request: &[u8], theirs: &[u8], out: &mut [u8]) -> usize {
+    let at = put(out, 0, 0);
+    let at = put_mark(out, at, ethernet_header::is_smv_frame(request));
+    class::alike(first(out, at), theirs)
+}

@@ -1,0 +1,133 @@
+// The class of two answers of a reader. The Rust has no limits, and panics where this project refuses.
+use crate::class;
+use crate::octets::less;
+use crate::octets::number16;
+use crate::octets::number64;
+use crate::octets::octet;
+use crate::octets::plus;
+
+// Whether the content at a place is longer than a limit, by the length octets before it, in the form of one octet or of 81,
+// of 82, or of 83.
+fn longer(s: &[u8], place: usize, limit: usize) -> bool {
+    let before = number16(s, less(place, 2)) as usize;
+    if limit < before % 256 {
+        return true;
+    }
+    if octet(s, less(place, 3)) == 0x82 {
+        return limit < before;
+    }
+    if octet(s, less(place, 4)) == 0x83 {
+        return limit < before + octet(s, less(place, 3)) as usize * 65536;
+    }
+    false
+}
+
+// Whether the integer at a place can be noASDU above 8.
+fn many(s: &[u8], place: usize) -> bool {
+    match octet(s, less(place, 1)) {
+        0 => 0x80 <= octet(s, place),
+        1 => 8 < octet(s, place),
+        2 => 8 < number16(s, place),
+        3 => 0x80 <= octet(s, plus(place, 1)),
+        _ => false,
+    }
+}
+
+// Refused 4: what stands at the place is above a limit. Where the Rust refuses, it does so further on.
+fn limit(s: &[u8], theirs: &[u8], ours: &[u8]) -> usize {
+    let place = number64(ours, 2);
+    if !many(s, place) {
+        if !longer(s, place, 64) {
+            return class::UNEXPLAINED;
+        }
+    }
+    match octet(theirs, 0) {
+        0 => class::LIMIT_ANSWERED,
+        1 => {
+            if number64(theirs, 2) < place {
+                return class::UNEXPLAINED;
+            }
+            class::LIMIT_REFUSED
+        }
+        _ => class::LIMIT_PANICKED,
+    }
+}
+
+// Whether a place is that of the first content octet of refrTm, by the tag 84 and the length octets before it.
+fn after_84(s: &[u8], place: usize) -> bool {
+    if octet(s, less(place, 2)) == 0x84 {
+        return true;
+    }
+    if octet(s, less(place, 3)) == 0x84 {
+        return octet(s, less(place, 2)) == 0x81;
+    }
+    if octet(s, less(place, 4)) == 0x84 {
+        return octet(s, less(place, 3)) == 0x82;
+    }
+    if octet(s, less(place, 5)) == 0x84 {
+        return octet(s, less(place, 4)) == 0x83;
+    }
+    false
+}
+
+// Refused 1 where the Rust panics: fewer than 8 octets of refrTm, or an octet past the end.
+fn too_soon(s: &[u8], theirs: &[u8], place: usize) -> usize {
+    let index = octet(theirs, 1) == 1;
+    if index {
+        if place == s.len() {
+            return class::PANIC_AT_END;
+        }
+        return class::UNEXPLAINED;
+    }
+    if s.len() < 22 {
+        if place == s.len() {
+            return class::PANIC_HEADER;
+        }
+    }
+    if s.len() < place {
+        return class::UNEXPLAINED;
+    }
+    if 7 < s.len() - place {
+        return class::UNEXPLAINED;
+    }
+    if after_84(s, place) {
+        return class::PANIC_REFR_TM;
+    }
+    class::UNEXPLAINED
+}
+
+// The Rust panics.
+fn panicked(s: &[u8], theirs: &[u8], ours: &[u8]) -> usize {
+    let place = number64(ours, 2);
+    match number16(ours, 0) {
+        257 => too_soon(s, theirs, place),
+        261 => {
+            if !longer(s, place, 8) {
+                return class::UNEXPLAINED;
+            }
+            if octet(theirs, 1) == 2 {
+                return class::PANIC_GM_IDENTITY;
+            }
+            class::UNEXPLAINED
+        }
+        _ => class::UNEXPLAINED,
+    }
+}
+
+pub fn class_of(s: &[u8], channels: usize, theirs: &[u8], ours: &[u8]) -> usize {
+    if 24 < channels {
+        if number16(ours, 0) == 264 {
+            if number64(ours, 2) == 0 {
+                return class::MANY_CHANNELS;
+            }
+        }
+        return class::UNEXPLAINED;
+    }
+    if number16(ours, 0) == 260 {
+        return limit(s, theirs, ours);
+    }
+    if octet(theirs, 0) == class::PANICKED {
+        return panicked(s, theirs, ours);
+    }
+    class::alike(ours, theirs)
+}
