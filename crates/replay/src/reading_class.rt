@@ -70,20 +70,27 @@ fn after_84(s: &[u8], place: usize) -> bool {
     false
 }
 
-// Refused 1 where the Rust panics: fewer than 8 octets of refrTm, or an octet past the end.
-fn too_soon(s: &[u8], theirs: &[u8], place: usize) -> usize {
-    let index = octet(theirs, 1) == 1;
-    if index {
-        if place == s.len() {
-            return class::PANIC_AT_END;
-        }
-        return class::UNEXPLAINED;
+// Whether octets are too few for the header.
+fn lacks_header(s: &[u8]) -> bool {
+    if s.len() < 18 {
+        return true;
     }
-    if s.len() < 22 {
-        if place == s.len() {
-            return class::PANIC_HEADER;
-        }
+    if 21 < s.len() {
+        return false;
     }
+    number16(s, 12) == 0x8100
+}
+
+// Refused 1 where the Rust panics by an index: an octet past the end.
+fn past_end(s: &[u8], place: usize) -> usize {
+    if place == s.len() {
+        return class::PANIC_AT_END;
+    }
+    class::UNEXPLAINED
+}
+
+// Refused 1 where the Rust panics by a range: fewer than 8 octets of refrTm.
+fn lacks_refr_tm(s: &[u8], place: usize) -> usize {
     if s.len() < place {
         return class::UNEXPLAINED;
     }
@@ -96,22 +103,51 @@ fn too_soon(s: &[u8], theirs: &[u8], place: usize) -> usize {
     class::UNEXPLAINED
 }
 
-// The Rust panics.
+// Refused 5 where the Rust panics by a copy: gmIdentity above 8 octets.
+fn long_gm_identity(s: &[u8], place: usize) -> usize {
+    if longer(s, place, 8) {
+        return class::PANIC_GM_IDENTITY;
+    }
+    class::UNEXPLAINED
+}
+
+// The Rust panics, by an index (1) or by a range or a copy (2).
 fn panicked(s: &[u8], theirs: &[u8], ours: &[u8]) -> usize {
     let place = number64(ours, 2);
+    let by = octet(theirs, 1);
     match number16(ours, 0) {
-        257 => too_soon(s, theirs, place),
-        261 => {
-            if !longer(s, place, 8) {
-                return class::UNEXPLAINED;
+        257 => {
+            if by == 1 {
+                return past_end(s, place);
             }
-            if octet(theirs, 1) == 2 {
-                return class::PANIC_GM_IDENTITY;
+            lacks_refr_tm(s, place)
+        }
+        261 => {
+            if by == 2 {
+                return long_gm_identity(s, place);
             }
             class::UNEXPLAINED
         }
         _ => class::UNEXPLAINED,
     }
+}
+
+// The class where a frame is shorter than its header, which is refused before any limit.
+pub fn of_header(s: &[u8], theirs: &[u8], ours: &[u8]) -> usize {
+    if octet(theirs, 0) != class::PANICKED {
+        return class::UNEXPLAINED;
+    }
+    class::at_end(ours, s.len(), class::PANIC_HEADER)
+}
+
+// The class of the frame reader's answers.
+pub fn class_of_frame(s: &[u8], channels: usize, theirs: &[u8], ours: &[u8]) -> usize {
+    if channels <= 24 {
+        if lacks_header(s) {
+            return of_header(s, theirs, ours);
+        }
+    }
+    class_of(s, channels, theirs, ours)
 }
 
 pub fn class_of(s: &[u8], channels: usize, theirs: &[u8], ours: &[u8]) -> usize {
