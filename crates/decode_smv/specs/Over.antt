@@ -1,10 +1,10 @@
 -- Laws of `over`: a list in which the elements from a place on are others.
-use mathlib.Core.Path.{_≡_, refl, sym, ap, _∙_}
+use mathlib.Core.Path.{_≡_, sym, _∙_}
 use mathlib.Core.List.{List, [], _∷_, _++_, append-assoc}
-use Prim.Native.Nat.{ℕ, zero, suc, _+_, _-_, _<_, _≤_}
+use Prim.Native.Nat.{ℕ, suc, _+_, _-_, _<_}
 use native.Mathlib.Nat.{add-zero}
 use native.Mathlib.Omega.{arith}
-use lib.ListN.{length, getD, take, drop, set, length-drop, length-append, take-append-drop}
+use lib.ListN.{length, getD, take, drop, set, length-append, take-append-drop}
 use lib.Seq.{drop-cons, set-at, length-take-le, take-append-seam, drop-append-add, drop-drop}
 use Rattle.definition.specs.Answers.{over}
 
@@ -23,12 +23,6 @@ module _ {A : Type 0} (l : List A) where
       let e : at + length (vs ++ (v ∷ [])) ≡ suc (at + length vs) = omega (arith, length-append vs (v ∷ [])) in
       rw (d, ← append-assoc (take at l) vs (getD l (at + length vs) v ∷ drop (suc (at + length vs)) l))
       (set-at (take at l ++ vs) _ _ v (at + length vs) f ∙ rw (e, append-assoc, append-assoc))
-
-  pub over-length : (at : ℕ) (vs : List A) → at + length vs ≤ length l → length (over l at vs) ≡ length l
-  unfolding over
-  over-length at vs h =
-      let t : length (take at l) ≡ at = length-take-le at l (omega arith) in
-      rw (length-append, length-append, length-drop, t) (omega arith)
 
   -- a second run straight after the first
   pub over-over : (vs ws : List A) → over (over l 0 vs) (length vs) ws ≡ over l 0 (vs ++ ws)

@@ -1,10 +1,9 @@
 -- The octets of a frame before its PDU, from the header's record: "Addresses, optional 81 00 and TCI, EtherType, APPID, Length,
 -- reserved 1, reserved 2".
-use mathlib.Core.Path.{_≡_, refl, sym, ap, _∙_}
+use mathlib.Core.Path.{_≡_, refl, _∙_}
 use mathlib.Core.List.{List, [], _∷_, _++_, append-assoc}
-use mathlib.Core.Option.{Option, some, none}
-use mathlib.Core.Bool.{Bool, true, false, cond}
-use Prim.Native.Nat.{ℕ, _+_, _/_, _%_, _≤_, _<_}
+use mathlib.Core.Bool.{Bool, true}
+use Prim.Native.Nat.{ℕ, _+_, _≤_}
 use native.Mathlib.Omega.{arith}
 use lib.ListN.{length, length-append}
 use lib.IntN.{ℤ}
@@ -12,7 +11,7 @@ use lib.Dec.{eqb}
 use borrow.Author.Tests.{eqb-true}
 use Rattle.definition.specs.Limits.{smvEtherType, vlanTpid}
 use Rattle.definition.specs.Octets.{octets, length-octets}
-use Rattle.definition.specs.Frame.{optional, vlanOctets, reserved, pduOctets, lengthOf, frameOctets, held, and}
+use Rattle.definition.specs.Frame.{optional, vlanOctets, reserved, pduOctets, lengthOf, frameOctets, held}
 use Rattle.definition.specs.Answers.{described}
 use Rattle.rt_services.specs.declared.SavPdu.{SavPdu}
 use Rattle.rt_services.specs.declared.EthernetHeader.{EthernetHeader}

@@ -3,7 +3,7 @@ use rt_services::EthernetHeader;
 use rt_services::Vlan;
 ghost use mathlib.Core.Path.{_≡_};
 ghost use mathlib.Core.Bool.{Bool, true};
-ghost use Prim.Native.Nat.{ℕ, _+_, _≤_, _<_};
+ghost use Prim.Native.Nat.{ℕ, _+_, _≤_};
 ghost use lib.ListN.{length};
 ghost use Rattle.definition.specs.Frame.{reserved};
 ghost use Rattle.ber_encode.specs.Put.{Wrote};

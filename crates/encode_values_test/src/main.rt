@@ -85,7 +85,7 @@ fn show(
     print_octets(frame);
 }
 
-// noASDU ASDUs of so many channels, with this EtherType, all values the same.
+// noASDU ASDUs of so many channels, with this EtherType, these values and quality words of 0.
 fn case(ether_type: u16, no_asdu: u16, channels: usize, values: &[f32]) {
     let mut frame = [0xAAu8; 55];
     show(

@@ -1,25 +1,23 @@
 -- The record that reading a header answers, and the cases of the definitions.
-use mathlib.Core.Path.{_≡_, refl, sym, ap, _∙_}
+use mathlib.Core.Path.{_≡_, refl, sym, ap}
 use mathlib.Core.List.{List, [], _∷_}
 use mathlib.Core.Option.{Option, some, none}
-use mathlib.Core.Bool.{Bool, true, false, cond}
+use mathlib.Core.Bool.{Bool, true, false}
 use Prim.Native.Nat.{ℕ, zero, suc, _+_, _*_, _<_, _≤_}
 use native.Mathlib.Omega.{arith}
 use native.Mathlib.Nat.{add-zero}
 use lib.ListN.{length, getD, take, drop, replicate, List·getD-eq-default}
-use lib.Seq.{getD-drop, drop-cons}
-use lib.Dec.{leb, ltb, eqb, lit<}
+use lib.Seq.{drop-cons}
+use lib.Dec.{leb, eqb, lit<}
 use borrow.Author.Tests.{le-leb, lt-leb, le-ltb, lt-ltb, eq-eqb, ne-eqb, eqb-true, eqb-false}
-use Rattle.definition.specs.Limits.{smvEtherType, vlanTpid, endsTooSoon}
+use Rattle.definition.specs.Limits.{endsTooSoon}
 use Rattle.definition.specs.Frame.{and}
 use Rattle.definition.specs.Read.{Out, got, refused, beAt, tagged, Header, headerAt, headerFrom, isSmvFrame, simulationOf}
 use Rattle.rt_services.specs.Describe.{headerRecord, tagOf, vlanOf}
 use Rattle.rt_services.specs.declared.Vlan.{Vlan}
 use Rattle.rt_services.specs.declared.Vlan.the-variants as vlan
 use Rattle.rt_services.specs.declared.Refusal.{Refusal}
-use Rattle.rt_services.specs.declared.EthernetHeader.{EthernetHeader}
 use Rattle.ber_decode.specs.Cases.{Bytes}
-use Rattle.ber_decode.specs.declared.Cursor.{Cursor}
 use Rattle.ethernet_header.specs.declared.HeaderRead.{HeaderRead}
 use Rattle.ethernet_header.specs.declared.HeaderEnd.{HeaderEnd}
 use Rattle.ethernet_header.specs.declared.HeaderEnd.the-variants.{Refused, Next}

@@ -1,14 +1,13 @@
 -- `encode_header::encode_ethernet_header` meets its contract: one writer after another, each where the last ended. The room that
 -- each needs is part of the header's. Assumes nothing.
 use borrow.Author.Needs.{needs}
-use mathlib.Core.Path.{_≡_, refl, sym, ap, _∙_}
-use mathlib.Core.List.{[], _∷_, _++_}
-use Prim.Native.Nat.{ℕ, _+_, _≤_, _<_}
+use mathlib.Core.Path.{_≡_}
+use Prim.Native.Nat.{_+_, _≤_}
 use native.Mathlib.Omega.{arith}
 use lib.ListN.{length}
 use Rattle.encode_header.specs.Header.{tagOctets, headerOctets, smv-octets, length-header, header-fits}
-use Rattle.ber_encode.specs.Put.{Wrote, andThen}
-use Rattle.definition.specs.Octets.{octets, length-octets}
+use Rattle.ber_encode.specs.Put.{andThen}
+use Rattle.definition.specs.Octets.{length-octets}
 use Rattle.encode_header.proofs.encode_ethernet_header.Statement.{statement}
 use Rattle.encode_header.proofs.encode_ethernet_header.Tie as tie
 
@@ -21,67 +20,54 @@ src-long c = search needs
 room : (c : tie.Start) → 22 + length (tagOctets (c .args .header .vlan)) ≤ length (c .args .frame .now)
 room c = omega (arith, length-header (c .args .header) (c .args .sim) (c .args .len) (dst-long c) (src-long c), c .pre .1)
 
--- src/lib.rt:60:46
 slice-aggregate-put-bytes : tie.Need-slice-aggregate-put-bytes
 slice-aggregate-put-bytes c = search needs
 
--- src/lib.rt:60:9
 put-bytes-requires : tie.Need-put-bytes-requires
 put-bytes-requires c κs =
     omega (arith, dst-long (c .before .before .before .before .before), room (c .before .before .before .before .before))
 
--- src/lib.rt:61:47
 slice-aggregate-put-bytes-2 : tie.Need-slice-aggregate-put-bytes-2
 slice-aggregate-put-bytes-2 c = search needs
 
--- src/lib.rt:61:9
 put-bytes-requires-2 : tie.Need-put-bytes-requires-2
 put-bytes-requires-2 c κs =
     omega (arith, dst-long (c .before .before .before .before .before .before .before .before .before .before), src-long (c .before .before .before .before .before .before .before .before .before .before), room (c .before .before .before .before .before .before .before .before .before .before), c .before .before .before .before .put-bytes .ensures .place, c .before .before .before .before .put-bytes .kept .0)
 
--- src/lib.rt:62:9
 put-vlan-requires : tie.Need-put-vlan-requires
 put-vlan-requires c κs =
     let s = c .before .before .before .before .before .before .before .before .before .before .before .before .before .before in
     (header-fits (s .args .header) (s .pre .0) .1, omega (arith, dst-long s, src-long s, room s, c .before .before .before .before .before .before .before .before .put-bytes .ensures .place, c .before .before .before .before .before .before .before .before .put-bytes .kept .0, c .before .before .before .put-bytes2 .ensures .place, c .before .before .before .put-bytes2 .kept .0))
 
--- src/lib.rt:63:47
 slice-aggregate-put-bytes-3 : tie.Need-slice-aggregate-put-bytes-3
 slice-aggregate-put-bytes-3 c = search needs
 
--- src/lib.rt:63:9
 put-bytes-requires-3 : tie.Need-put-bytes-requires-3
 put-bytes-requires-3 c κs =
     let s = c .before .before .before .before .before .before .before .before .before .before .before .before .before .before .before .before .before .before .before in
     omega (arith, dst-long s, src-long s, room s, c .before .before .before .before .before .before .before .before .before .before .before .before .before .put-bytes .ensures .place, c .before .before .before .before .before .before .before .before .before .before .before .before .before .put-bytes .kept .0, c .before .before .before .before .before .before .before .before .put-bytes2 .ensures .place, c .before .before .before .before .before .before .before .before .put-bytes2 .kept .0, c .before .before .before .before .put-vlan .ensures .place, c .before .before .before .before .put-vlan .kept .0)
 
--- src/lib.rt:64:51
 cast-put-octets : tie.Need-cast-put-octets
 cast-put-octets c = search needs
 
--- src/lib.rt:64:9
 put-octets-requires : tie.Need-put-octets-requires
 put-octets-requires c κs =
     let s = c .before .before .before .before .before .before .before .before .before .before .before .before .before .before .before .before .before .before .before .before .before .before .before .before in
     omega (arith, dst-long s, src-long s, room s, c .before .before .before .before .before .before .before .before .before .before .before .before .before .before .before .before .before .before .put-bytes .ensures .place, c .before .before .before .before .before .before .before .before .before .before .before .before .before .before .before .before .before .before .put-bytes .kept .0, c .before .before .before .before .before .before .before .before .before .before .before .before .before .put-bytes2 .ensures .place, c .before .before .before .before .before .before .before .before .before .before .before .before .before .put-bytes2 .kept .0, c .before .before .before .before .before .before .before .before .before .put-vlan .ensures .place, c .before .before .before .before .before .before .before .before .before .put-vlan .kept .0, c .before .before .before .before .put-bytes3 .ensures .place, c .before .before .before .before .put-bytes3 .kept .0)
 
--- src/lib.rt:65:9
 put-octets-requires-2 : tie.Need-put-octets-requires-2
 put-octets-requires-2 c κs =
     let s = c .before .before .before .before .before .before .before .before .before .before .before .before .before .before .before .before .before .before .before .before .before .before .before .before .before .before .before .before in
     omega (arith, dst-long s, src-long s, room s, c .before .before .before .before .before .before .before .before .before .before .before .before .before .before .before .before .before .before .before .before .before .before .put-bytes .ensures .place, c .before .before .before .before .before .before .before .before .before .before .before .before .before .before .before .before .before .before .before .before .before .before .put-bytes .kept .0, c .before .before .before .before .before .before .before .before .before .before .before .before .before .before .before .before .before .put-bytes2 .ensures .place, c .before .before .before .before .before .before .before .before .before .before .before .before .before .before .before .before .before .put-bytes2 .kept .0, c .before .before .before .before .before .before .before .before .before .before .before .before .before .put-vlan .ensures .place, c .before .before .before .before .before .before .before .before .before .before .before .before .before .put-vlan .kept .0, c .before .before .before .before .before .before .before .before .put-bytes3 .ensures .place, c .before .before .before .before .before .before .before .before .put-bytes3 .kept .0, length-octets 2 (s .args .header .appid), c .before .before .before .put-octets .ensures .place, c .before .before .before .put-octets .kept .0)
 
--- src/lib.rt:66:5
 put-reserved-requires : tie.Need-put-reserved-requires
 put-reserved-requires c κs =
     let s = c .before .before .before .before .before .before .before .before .before .before .before .before .before .before .before .before .before .before .before .before .before .before .before .before .before .before .before .before .before .before .before .before in
     omega (arith, dst-long s, src-long s, room s, c .before .before .before .before .before .before .before .before .before .before .before .before .before .before .before .before .before .before .before .before .before .before .before .before .before .before .put-bytes .ensures .place, c .before .before .before .before .before .before .before .before .before .before .before .before .before .before .before .before .before .before .before .before .before .before .before .before .before .before .put-bytes .kept .0, c .before .before .before .before .before .before .before .before .before .before .before .before .before .before .before .before .before .before .before .before .before .put-bytes2 .ensures .place, c .before .before .before .before .before .before .before .before .before .before .before .before .before .before .before .before .before .before .before .before .before .put-bytes2 .kept .0, c .before .before .before .before .before .before .before .before .before .before .before .before .before .before .before .before .before .put-vlan .ensures .place, c .before .before .before .before .before .before .before .before .before .before .before .before .before .before .before .before .before .put-vlan .kept .0, c .before .before .before .before .before .before .before .before .before .before .before .before .put-bytes3 .ensures .place, c .before .before .before .before .before .before .before .before .before .before .before .before .put-bytes3 .kept .0, length-octets 2 (s .args .header .appid), c .before .before .before .before .before .before .before .put-octets .ensures .place, c .before .before .before .before .before .before .before .put-octets .kept .0, length-octets 2 (s .args .len), c .before .before .before .put-octets2 .ensures .place, c .before .before .before .put-octets2 .kept .0)
 
--- src/lib.rt:48:1
 same-length : tie.Need-same-length
 same-length c = search needs
 
--- src/lib.rt:48:1
 returns : tie.Need-returns
 unfolding headerOctets
 returns c =

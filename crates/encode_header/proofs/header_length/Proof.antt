@@ -1,6 +1,7 @@
 -- `encode_header::header_length` meets its contract, by the two cases of the tag. Assumes nothing.
 use borrow.Author.Needs.{needs}
-use mathlib.Core.Path.{_≡_, sym, ap, _∙_}
+use mathlib.Core.Bool.{Bool}
+use mathlib.Core.Path.{_≡_, ap, _∙_}
 use Prim.Native.Nat.{ℕ, _+_}
 use lib.ListN.{length}
 use native.Mathlib.Omega.{arith}
@@ -14,22 +15,19 @@ dst-long c = search needs
 src-long : (c : tie.Start) → length (c .args .header .«src_addr») ≡ 6
 src-long c = search needs
 
-length-with : (c : tie.Start) (sim : mathlib.Core.Bool.Bool) (len m : ℕ) → length (tagOctets (c .args .header .vlan)) ≡ m → 22 + m ≡ length (headerOctets (c .args .header) sim len)
+length-with : (c : tie.Start) (sim : Bool) (len m : ℕ) → length (tagOctets (c .args .header .vlan)) ≡ m → 22 + m ≡ length (headerOctets (c .args .header) sim len)
 length-with c sim len m e = omega (arith, e, length-header (c .args .header) sim len (dst-long c) (src-long c))
 
 enum-told : tie.Need-enum-told
 enum-told c = search needs
 
--- src/lib.rt:42:9
 enum-told-2 : tie.Need-enum-told-2
 enum-told-2 c = search needs
 
--- src/lib.rt:42:9
 returns : tie.Need-returns
 returns c =
     (λ sim len. length-with (c .before .before) sim len 0 (ap (λ v. length (tagOctets v)) (c .enum-told2 .given .1) ∙ rw untagged), omega arith)
 
--- src/lib.rt:37:1
 returns-2 : tie.Need-returns-2
 returns-2 c =
     (λ sim len. length-with (c .before .before) sim len 4 (ap (λ v. length (tagOctets v)) (c .enum-told .given .1) ∙ length-tagged _ _), omega arith)

@@ -4,37 +4,29 @@ use Rattle.definition.specs.Frame.{reserved}
 use Rattle.encode_header.proofs.put_reserved.Statement.{statement}
 use Rattle.encode_header.proofs.put_reserved.Tie as tie
 
--- src/lib.rt:31:49
 slice-aggregate-put-bytes : tie.Need-slice-aggregate-put-bytes
 slice-aggregate-put-bytes c = search needs
 
--- src/lib.rt:31:9
 put-bytes-requires : tie.Need-put-bytes-requires
 put-bytes-requires c κs = search needs
 
--- src/lib.rt:31:9
 same-length : tie.Need-same-length
 same-length c = search needs
 
--- src/lib.rt:31:9
 returns : tie.Need-returns
 unfolding reserved
 returns c =
     rw (c .before .before .before .before .before .if1 .taken) (c .before .before .put-bytes .ensures)
 
--- src/lib.rt:33:38
 slice-aggregate-put-bytes-2 : tie.Need-slice-aggregate-put-bytes-2
 slice-aggregate-put-bytes-2 c = search needs
 
--- src/lib.rt:33:5
 put-bytes-requires-2 : tie.Need-put-bytes-requires-2
 put-bytes-requires-2 c κs = search needs
 
--- src/lib.rt:26:1
 same-length-2 : tie.Need-same-length-2
 same-length-2 c = search needs
 
--- src/lib.rt:26:1
 returns-2 : tie.Need-returns-2
 unfolding reserved
 returns-2 c =

@@ -3,52 +3,40 @@ use borrow.Author.Needs.{needs}
 use mathlib.Core.Path.{_≡_, ap, _∙_}
 use native.Mathlib.Omega.{arith}
 use lib.ListN.{length}
-use mathlib.Core.List.{[], _∷_, _++_}
-use Prim.Native.Nat.{ℕ, _+_}
-use Rattle.encode_header.specs.Header.{tagOctets, TagFits, untagged, tagged, length-tagged}
-use Rattle.ber_encode.specs.Put.{Wrote, andThen, nothing-wrote}
-use Rattle.definition.specs.Octets.{octets, length-octets}
+use Rattle.encode_header.specs.Header.{tagOctets, untagged, tagged, length-tagged}
+use Rattle.ber_encode.specs.Put.{andThen, nothing-wrote}
 use Rattle.encode_header.proofs.put_vlan.Statement.{statement}
 use Rattle.encode_header.proofs.put_vlan.Tie as tie
 
--- src/lib.rt:18:25
 enum-known-vlan : tie.Need-enum-known-vlan
 enum-known-vlan c = search needs
 
--- src/lib.rt:19:9
 enum-told : tie.Need-enum-told
 enum-told c = search needs
 
--- src/lib.rt:19:9
 returns : tie.Need-returns
 returns c =
     rw (c .enum-told .given .1, untagged) (nothing-wrote _ _)
 
--- src/lib.rt:21:46
 slice-aggregate-put-bytes : tie.Need-slice-aggregate-put-bytes
 slice-aggregate-put-bytes c = search needs
 
--- src/lib.rt:21:9
 put-bytes-requires : tie.Need-put-bytes-requires
 put-bytes-requires c κs =
     let e : length (tagOctets (c .before .before .before .before .before .before .args .vlan)) ≡ 4 = ap (λ v. length (tagOctets v)) (c .before .before .before .vlan .given .1) ∙ length-tagged _ _ in
     omega (arith, e)
 
--- src/lib.rt:22:41
 cast-put-octets : tie.Need-cast-put-octets
 cast-put-octets c = search needs
 
--- src/lib.rt:22:5
 put-octets-requires : tie.Need-put-octets-requires
 put-octets-requires c κs =
     let e : length (tagOctets (c .before .before .before .before .before .before .before .before .before .before .args .vlan)) ≡ 4 = ap (λ v. length (tagOctets v)) (c .before .before .before .before .before .before .before .vlan .given .1) ∙ length-tagged _ _ in
     omega (arith, e, c .before .before .before .put-bytes .ensures .place, c .before .before .before .put-bytes .kept .0, c .before .before .before .before .before .before .before .before .before .before .pre .1)
 
--- src/lib.rt:14:1
 same-length : tie.Need-same-length
 same-length c = search needs
 
--- src/lib.rt:14:1
 returns-2 : tie.Need-returns-2
 returns-2 c =
     let s = c .before .before .before .before .before .before .before .before .before .before .before .before .before in
