@@ -284,6 +284,16 @@ pub fn frame(request: &[u8], theirs: &[u8], out: &mut [u8]) -> usize {
     )
 }
 
+// The class, where the Rust answered, with a blank header before its PDU.
+fn with_answer(found: usize, theirs: &[u8]) -> usize {
+    let mut answer = [0u8; 4096];
+    if found != class::LIMIT_ANSWERED {
+        return found;
+    }
+    let at = put_octets(&mut answer, 23, after(theirs, 1));
+    reading_class::with_answer(found, first(&answer, at))
+}
+
 pub fn pdu(request: &[u8], theirs: &[u8], out: &mut [u8]) -> usize {
     let mut counts = [0i32; 192];
     let mut qualities = [0u32; 192];
@@ -294,12 +304,13 @@ pub fn pdu(request: &[u8], theirs: &[u8], out: &mut [u8]) -> usize {
     let r = decode_smv::decode_smv(s, start, channels, &mut counts, &mut qualities);
     if r.number != 0 {
         let at = put_refusal(out, r.number, r.place);
-        return reading_class::class_of(s, channels, theirs, first(out, at));
+        let found = reading_class::class_of(s, start, channels, theirs, first(out, at));
+        return with_answer(found, theirs);
     }
     let at = put(out, 0, 0);
     let at = put_pdu(out, at, r, scales, &counts, &qualities);
     by_text(
-        reading_class::class_of(s, channels, theirs, first(out, at)),
+        reading_class::class_of(s, start, channels, theirs, first(out, at)),
         r,
     )
 }
