@@ -213,13 +213,7 @@ pub fn class_of_frame(s: &[u8], channels: usize, theirs: &[u8], ours: &[u8]) -> 
 }
 
 // The class of the answers for a PDU from start on.
-pub fn class_of(
-    s: &[u8],
-    start: usize,
-    channels: usize,
-    theirs: &[u8],
-    ours: &[u8],
-) -> usize {
+pub fn class_of(s: &[u8], start: usize, channels: usize, theirs: &[u8], ours: &[u8]) -> usize {
     if 24 < channels {
         if number16(ours, 0) == 264 {
             if number64(ours, 2) == 0 {
