@@ -77,6 +77,11 @@ pub const OTHER_SCALES: usize = 25;
 // The Rust's sum of index and length overflows, in the integer reader by itself; ours is refusal 1 at the index.
 pub const PANIC_SUM: usize = 26;
 
+// Alike, and strict reading accepts it: it is what the writer writes again. With text that is UTF-8, and that isn't.
+pub const STRICT: usize = 27;
+
+pub const STRICT_LOSSY: usize = 28;
+
 // The status of a panic.
 pub const PANICKED: u8 = 2;
 
@@ -113,8 +118,21 @@ pub fn print_name(class: usize) {
         24 => say(b"answered alike, quality bits 13 to 31 cleared: refused 9 with them"),
         25 => say(b"answered alike, scale factors that differ: by the writer of counts"),
         26 => say(b"the Rust panics, index plus length of 2^64 or more: refused 1 at the index"),
+        27 => say(b"answered alike, strict reading accepts it"),
+        28 => say(b"answered alike, strict reading accepts it, text that isn't UTF-8"),
         _ => say(b"no class"),
     }
+}
+
+// The class of a reading that strict reading accepts.
+pub fn strictly(found: usize) -> usize {
+    if found == ANSWERED {
+        return STRICT;
+    }
+    if found == LOSSY {
+        return STRICT_LOSSY;
+    }
+    found
 }
 
 // The class of two answers that have to be the same.

@@ -20,6 +20,7 @@ use crate::octets::part;
 use crate::octets::plus;
 use crate::reading_class;
 use crate::text;
+use ber_encode::Written;
 use decode_smv::SavRead;
 use ethernet_header::HeaderEnd;
 use rt_services::EthernetHeader;
@@ -263,6 +264,66 @@ fn by_text(found: usize, r: SavRead) -> usize {
     class::LOSSY
 }
 
+// Whether the writer writes these octets again of what was read.
+fn written_again(s: &[u8], channels: usize, r: SavRead, counts: &[i32], qualities: &[u32]) -> bool {
+    let mut buffer = [0u8; SavPdu::MAX_FRAME];
+    let header = r.header;
+    let sav_asdu = r.sav_asdu;
+    let security_octets = r.security_octets;
+    let security = r.security;
+    let pdu = SavPdu {
+        sav_asdu,
+        security_octets,
+        security_len: r.security_len,
+        no_asdu: r.no_asdu,
+        sim: r.sim,
+        security,
+    };
+    let answer = encode_smv::encode_smv(header, pdu, channels, counts, qualities, &mut buffer);
+    let Written::At(size) = answer else {
+        return false;
+    };
+    check::same(s, first(&buffer, size))
+}
+
+// The class, with strict reading: it refuses what ordinary reading refuses, and accepts exactly what
+// the writer writes again of what was read.
+fn by_strict(
+    found: usize,
+    s: &[u8],
+    channels: usize,
+    r: SavRead,
+    counts: &[i32],
+    qualities: &[u32],
+) -> usize {
+    let mut own_counts = [0i32; 192];
+    let mut own_qualities = [0u32; 192];
+    let strict = strict_smv::read_strict(s, channels, &mut own_counts, &mut own_qualities);
+    if r.number != 0 {
+        if strict.number != r.number {
+            return class::UNEXPLAINED;
+        }
+        if strict.place != r.place {
+            return class::UNEXPLAINED;
+        }
+        return found;
+    }
+    let again = written_again(s, channels, r, counts, qualities);
+    if strict.number == 6 {
+        if again {
+            return class::UNEXPLAINED;
+        }
+        return found;
+    }
+    if strict.number != 0 {
+        return class::UNEXPLAINED;
+    }
+    if !again {
+        return class::UNEXPLAINED;
+    }
+    class::strictly(found)
+}
+
 pub fn frame(request: &[u8], theirs: &[u8], out: &mut [u8]) -> usize {
     let mut counts = [0i32; 192];
     let mut qualities = [0u32; 192];
@@ -272,16 +333,18 @@ pub fn frame(request: &[u8], theirs: &[u8], out: &mut [u8]) -> usize {
     let r = decode_smv::read_frame(s, channels, &mut counts, &mut qualities);
     if r.number != 0 {
         let at = put_refusal(out, r.number, r.place);
-        return reading_class::class_of_frame(s, channels, theirs, first(out, at));
+        let found = reading_class::class_of_frame(s, channels, theirs, first(out, at));
+        return by_strict(found, s, channels, r, &counts, &qualities);
     }
     let header = r.header;
     let at = put(out, 0, 0);
     let at = put_header(out, at, header);
     let at = put_pdu(out, at, r, scales, &counts, &qualities);
-    by_text(
+    let found = by_text(
         reading_class::class_of_frame(s, channels, theirs, first(out, at)),
         r,
-    )
+    );
+    by_strict(found, s, channels, r, &counts, &qualities)
 }
 
 // The class, where the Rust answered, with a blank header before its PDU.
