@@ -1,8 +1,9 @@
 // The two kinds of block.
 use crate::describe;
+use crate::print::decimal;
+use crate::print::say;
 use ber_encode::Written;
-use cases::decimal;
-use cases::say;
+use decode_smv::SavRead;
 use rt_services::EthernetHeader;
 use rt_services::SavDataSetConfig;
 use rt_services::SavPdu;
@@ -31,6 +32,7 @@ pub fn frame(
     qualities: &[u32],
 ) {
     title(b"frame ", name);
+    describe::number(b"channels", channels);
     describe::description(header, pdu, channels, counts, qualities);
     let mut space = [0; SavPdu::MAX_FRAME];
     let frame: &mut [u8] = &mut space;
@@ -52,11 +54,44 @@ fn answered(reading: &[u8], number: usize, place: usize) {
     say(b"\n");
 }
 
-fn ordinary(s: &[u8], channels: usize) {
+// What was read.
+fn found(got: SavRead, channels: usize, counts: &[i32], qualities: &[u32]) {
+    let header = got.header;
+    let sav_asdu = got.sav_asdu;
+    let security_octets = got.security_octets;
+    let security = got.security;
+    let pdu = SavPdu {
+        sav_asdu,
+        security_octets,
+        security_len: got.security_len,
+        no_asdu: got.no_asdu,
+        sim: got.sim,
+        security,
+    };
+    describe::number(b"length", header.length as usize);
+    describe::description(header, pdu, channels, counts, qualities);
+}
+
+// What strict reading answers; where it accepts, it hands back what ordinary reading does.
+fn strict(s: &[u8], channels: usize) {
     let mut counts = [0; SavDataSetConfig::MAX_SAMPLES];
     let mut qualities = [0; SavDataSetConfig::MAX_SAMPLES];
-    let got = decode_smv::read_frame(s, channels, &mut counts, &mut qualities);
+    let got = strict_smv::read_strict(s, channels, &mut counts, &mut qualities);
+    answered(b"strict", got.number, got.place);
+}
+
+// What both readings answer, and what is found.
+fn readings(s: &[u8], channels: usize) {
+    let mut count_space = [0; SavDataSetConfig::MAX_SAMPLES];
+    let counts: &mut [i32] = &mut count_space;
+    let mut quality_space = [0; SavDataSetConfig::MAX_SAMPLES];
+    let qualities: &mut [u32] = &mut quality_space;
+    let got = decode_smv::read_frame(s, channels, counts, qualities);
     answered(b"ordinary", got.number, got.place);
+    strict(s, channels);
+    if got.number == 0 {
+        found(got, channels, counts, qualities);
+    }
 }
 
 // Octets, and what reading them answers.
@@ -64,5 +99,5 @@ pub fn read(name: &[u8], channels: usize, s: &[u8]) {
     title(b"read ", name);
     describe::number(b"channels", channels);
     describe::octets(b"octets", s, s.len());
-    ordinary(s, channels);
+    readings(s, channels);
 }

@@ -1,10 +1,10 @@
 // Prints a description, a field to a line.
-use cases::decimal;
-use cases::hex;
-use cases::hex16;
-use cases::plus;
-use cases::say;
-use cases::signed;
+use crate::octets::plus;
+use crate::print::decimal;
+use crate::print::hex;
+use crate::print::hex16;
+use crate::print::say;
+use crate::print::signed;
 use rt_services::EthernetHeader;
 use rt_services::OptionalU16;
 use rt_services::Presence;
@@ -178,6 +178,7 @@ fn asdus(pdu: SavPdu, channels: usize, counts: &[i32], qualities: &[u32]) {
     }
 }
 
+// The lines of a description after the number of channels.
 pub fn description(
     h: EthernetHeader,
     pdu: SavPdu,
@@ -185,7 +186,6 @@ pub fn description(
     counts: &[i32],
     qualities: &[u32],
 ) {
-    number(b"channels", channels);
     header(h);
     simulation(pdu.sim);
     let security = pdu.security;

@@ -1,12 +1,17 @@
 // Prints the conformance list: frames with their descriptions, descriptions that a writer refuses,
 // and octets with what reading answers. The list's format stands in its own first lines.
 mod block;
+mod calls;
 mod describe;
 mod frames;
+mod octets;
+mod print;
 mod reads;
+mod records;
 mod refusals;
+mod samples;
 
-use cases::say;
+use crate::print::say;
 
 fn main() {
     print_format();
@@ -17,47 +22,42 @@ fn main() {
     frames::print_sizes();
     refusals::print();
     reads::print();
+    calls::print();
 }
 
 // The first lines: what blocks there are.
 fn print_format() {
     say(
-        b"# Conformance list. A block is one or more lines after an empty line; a line is a word and\n",
+        b"# Conformance list. Blocks, with an empty line before each; in a block a word and what it\n",
     );
-    say(b"# what it says. Octets are in hexadecimal (- stands for none), all else is decimal.\n");
+    say(
+        b"# says on each line. Octets are in hexadecimal (- stands for none), all else is decimal.\n",
+    );
     say(b"#\n");
     say(
-        b"# frame NAME       a description in the lines that follow, then what a writer does with it:\n",
+        b"# frame NAME         what a writer does with a description; arrays and buffer are long enough\n",
     );
-    say(b"#   octets HEX       the frame, from first octet to last\n");
-    say(b"#   refused N        the refusal's number; the place is 0\n");
-    say(b"#   Arrays and buffer are long enough.\n");
-    say(b"# read NAME        octets, then what reading them answers:\n");
-    say(b"#   channels N       the number of channels that is asked for\n");
-    say(b"#   octets HEX       the input\n");
-    say(b"#   ordinary accepted, or: ordinary refused N P, with the refusal's number and place\n");
-    say(b"#   Arrays are long enough.\n");
+    say(b"#   channels N, the lines of the description, and\n");
+    say(b"#   octets HEX         the frame, from first octet to last, or\n");
+    say(b"#   refused N          the refusal's number, its place being 0\n");
+    say(b"# read NAME          what reading octets answers; arrays are long enough\n");
+    say(b"#   channels N         the number of channels that is asked for\n");
+    say(b"#   octets HEX         the input\n");
+    say(b"#   ordinary accepted, or ordinary refused N P, the refusal's number and place\n");
+    say(b"#   strict accepted, or strict refused N P, and where ordinary reading accepts\n");
+    say(b"#   length N           Length as it was read\n");
+    say(b"#   the lines of the description that was read\n");
     say(b"#\n");
 }
 
 // The first lines: the words of a description.
 fn print_fields() {
-    say(b"# The lines of a description, in this order:\n");
-    say(b"#   channels N\n");
-    say(b"#   destination HEX, source HEX\n");
-    say(b"#   vlan absent, or: vlan TPID TCI\n");
-    say(b"#   ethertype HEX, appid HEX\n");
-    say(b"#   simulation off, or: simulation on\n");
-    say(b"#   security absent, or: security HEX\n");
-    say(b"#   noASDU N, then for each ASDU\n");
-    say(b"#     asdu K             its number, from 0 on\n");
-    say(b"#     svID HEX\n");
-    say(b"#     datSet absent, or: datSet HEX\n");
-    say(b"#     smpCnt N, confRev N\n");
-    say(b"#     refrTm absent, or: refrTm HEX\n");
-    say(b"#     smpSynch N\n");
-    say(b"#     smpRate absent, or: smpRate N\n");
-    say(b"#     sample COUNT QUALITY, one line for each channel\n");
-    say(b"#     smpMod absent, or: smpMod N\n");
-    say(b"#     gmIdentity absent, or: gmIdentity HEX\n");
+    say(b"# The lines of a description, each word on a line of its own:\n");
+    say(b"#   destination HEX, source HEX, vlan absent or TPID TCI, ethertype HEX, appid HEX,\n");
+    say(b"#   simulation on or off, security absent or HEX, noASDU N, and for each ASDU\n");
+    say(b"#   asdu K (from 0 on), svID HEX, datSet absent or HEX, smpCnt N, confRev N,\n");
+    say(b"#   refrTm absent or HEX, smpSynch N, smpRate absent or N,\n");
+    say(
+        b"#   sample COUNT QUALITY for each channel, smpMod absent or N, gmIdentity absent or HEX.\n",
+    );
 }

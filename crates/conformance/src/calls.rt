@@ -1,0 +1,374 @@
+// Cases of document 01 and of the Rust's recorded answers, written by `encode_smv` and printed, a
+// line each: buffers, the order of refusals, limits and sizes.
+use crate::print::decimal;
+use crate::print::hex;
+use crate::print::say;
+use ber_encode::Written;
+use rt_services::EthernetHeader;
+use rt_services::OptionalU16;
+use rt_services::Presence;
+use rt_services::SavAsdu;
+use rt_services::SavPdu;
+
+pub fn print() {
+    say(
+        b"\n# Calls of the writer, a line each: buffers of so many octets, each EE before the call, and the order\n",
+    );
+    say(b"# of refusals. Numbers and places as above.\n");
+    frames();
+    numbers();
+    lengths();
+    buffers();
+    order();
+    limits();
+    words();
+    sizes();
+}
+
+// An answer, without the line's end.
+fn tell(answer: Written) {
+    match answer {
+        Written::Refused(r) => {
+            say(b"refused ");
+            decimal(r.number);
+            say(b" ");
+            decimal(r.place);
+        }
+        Written::At(n) => {
+            say(b"written ");
+            decimal(n);
+        }
+    }
+}
+
+// The octets of a frame.
+fn tell_octets(answer: Written, frame: &[u8]) {
+    match answer {
+        Written::Refused(r) => {
+            say(b"refused ");
+            decimal(r.number);
+        }
+        Written::At(n) => hex(frame, n),
+    }
+}
+
+// Writes a description into room enough, and prints the octets.
+fn octets(
+    name: &[u8],
+    header: EthernetHeader,
+    pdu: SavPdu,
+    channels: usize,
+    counts: &[i32],
+    qualities: &[u32],
+) {
+    let mut space = [0; SavPdu::MAX_FRAME];
+    let frame: &mut [u8] = &mut space;
+    say(name);
+    let answer = encode_smv::encode_smv(header, pdu, channels, counts, qualities, frame);
+    tell_octets(answer, frame);
+    say(b"\n");
+}
+
+// Writes a description into this much room, and prints the answer.
+fn answer_in(
+    name: &[u8],
+    header: EthernetHeader,
+    pdu: SavPdu,
+    channels: usize,
+    counts: &[i32],
+    qualities: &[u32],
+    frame: &mut [u8],
+) {
+    say(name);
+    tell(encode_smv::encode_smv(header, pdu, channels, counts, qualities, frame));
+    say(b"\n");
+}
+
+// The same, with room enough.
+fn answer(
+    name: &[u8],
+    header: EthernetHeader,
+    pdu: SavPdu,
+    channels: usize,
+    counts: &[i32],
+    qualities: &[u32],
+) {
+    let mut frame = [0; SavPdu::MAX_FRAME];
+    answer_in(name, header, pdu, channels, counts, qualities, &mut frame);
+}
+
+// The same, of a PDU of one channel, count 1,000 and quality word 0.
+fn answer_one(name: &[u8], header: EthernetHeader, pdu: SavPdu) {
+    answer(name, header, pdu, 1, &[1000], &[0]);
+}
+
+// ASDU k of eight: svID MU and the digit k, smpCnt 3,996 + k, every optional field.
+fn numbered(k: u8) -> SavAsdu {
+    let mut a = crate::records::full_asdu();
+    a.msv_id[0] = b'M';
+    a.msv_id[1] = b'U';
+    a.msv_id[2] = 48 + k % 10;
+    a.msv_id_len = 3;
+    a.smp_cnt = 3996 + k as u16;
+    a
+}
+
+fn eight() -> SavPdu {
+    let asdus = [
+        numbered(0),
+        numbered(1),
+        numbered(2),
+        numbered(3),
+        numbered(4),
+        numbered(5),
+        numbered(6),
+        numbered(7),
+    ];
+    let mut p = crate::records::secured(crate::records::pdu_of(asdus, 8), 16);
+    p.sim = true;
+    p
+}
+
+// Document 01's frame; and the tagged frame of eight ASDUs of eight channels with every optional
+// field of oracle/recorded.txt, with its size.
+fn frames() {
+    octets(
+        b"frame: ",
+        crate::records::header(),
+        crate::records::pdu(crate::records::asdu(), 1),
+        1,
+        &[1000],
+        &[0],
+    );
+    let mut counts = [0; 64];
+    crate::samples::fill_counts(&mut counts);
+    let mut qualities = [0; 64];
+    crate::samples::fill_qualities(&mut qualities);
+    octets(
+        b"eight ASDUs of eight channels: ",
+        crate::records::tagged(0x8100, 0x6005),
+        eight(),
+        8,
+        &counts,
+        &qualities,
+    );
+    say(b"their size: ");
+    tell(encode_smv::smv_size(crate::records::tagged(0x8100, 0x6005), eight(), 8));
+    say(b"\n");
+}
+
+// The frame with this smpCnt, without channels.
+fn smp_cnt(name: &[u8], smp_cnt: u16) {
+    let mut a = crate::records::asdu();
+    a.smp_cnt = smp_cnt;
+    octets(
+        name,
+        crate::records::header(),
+        crate::records::pdu(a, 1),
+        0,
+        &[0],
+        &[0],
+    );
+}
+
+// smpCnt of document 01's table.
+fn numbers() {
+    smp_cnt(b"smpCnt 0: ", 0);
+    smp_cnt(b"smpCnt 127: ", 127);
+    smp_cnt(b"smpCnt 128: ", 128);
+    smp_cnt(b"smpCnt 65535: ", 65535);
+}
+
+// A PDU of 1,381 octets and a datSet: six ASDUs without channels, svID of 127 octets, and datSet
+// of 100 in all but the last.
+fn long_pdu(len: usize) -> SavPdu {
+    let mut a = crate::records::with_optional(
+        crate::records::asdu(),
+        Presence::Present,
+        Presence::Absent,
+        OptionalU16::Absent,
+        OptionalU16::Absent,
+        Presence::Absent,
+    );
+    a.msv_id_len = 127;
+    a.dat_set_len = 100;
+    let mut last = a;
+    last.dat_set_len = len;
+    let asdus = [a, a, a, a, a, last, a, a];
+    crate::records::pdu_of(asdus, 6)
+}
+
+// The longest PDU, and one octet more.
+fn lengths() {
+    let h = crate::records::header();
+    answer(b"PDU of 1492: ", h, long_pdu(111), 0, &[0], &[0]);
+    answer(b"PDU of 1493: ", h, long_pdu(112), 0, &[0], &[0]);
+}
+
+// Writes document 01's frame.
+fn frame_in(frame: &mut [u8]) -> Written {
+    let pdu = crate::records::pdu(crate::records::asdu(), 1);
+    encode_smv::encode_smv(crate::records::header(), pdu, 1, &[1000], &[0], frame)
+}
+
+// Writes it into the first `room` of 56 octets EE, and prints them all.
+fn buffer(name: &[u8], room: usize) {
+    let mut space = [0xee; 56];
+    let frame: &mut [u8] = &mut space;
+    if frame.len() < room {
+        return;
+    }
+    let answer = frame_in(&mut frame[..room]);
+    say(name);
+    tell(answer);
+    say(b", ");
+    hex(frame, 56);
+    say(b"\n");
+}
+
+// One octet less than the frame's 53, just as many, and one more.
+fn buffers() {
+    buffer(b"buffer of 52: ", 52);
+    buffer(b"buffer of 53: ", 53);
+    buffer(b"buffer of 54: ", 54);
+}
+
+// Which of two refusals comes first: 8, 7 for the arrays, 9, 10, 7 for the frame.
+fn order() {
+    let h = crate::records::header();
+    let one = crate::records::pdu(crate::records::asdu(), 1);
+    let nine = crate::records::pdu(crate::records::asdu(), 9);
+    let mut goose = crate::records::header();
+    goose.ether_type = 0x88b8;
+    answer(b"25 channels, short arrays: ", h, one, 25, &[0], &[0]);
+    answer(b"noASDU 9, short counts: ", h, nine, 1, &[0; 8], &[0; 9]);
+    answer(
+        b"noASDU 9, short quality words: ",
+        h,
+        nine,
+        1,
+        &[0; 9],
+        &[0; 8],
+    );
+    answer(b"noASDU 9: ", h, nine, 1, &[0; 9], &[0; 9]);
+    answer(
+        b"PDU of 1493, EtherType 88B8: ",
+        goose,
+        long_pdu(112),
+        0,
+        &[0],
+        &[0],
+    );
+    let mut frame = [0xee; 1];
+    answer_in(
+        b"PDU of 1493, short buffer: ",
+        h,
+        long_pdu(112),
+        0,
+        &[0],
+        &[0],
+        &mut frame,
+    );
+}
+
+// A PDU whose datSet is absent or present and has this length.
+fn with_dat_set(presence: Presence, len: usize) -> SavPdu {
+    let mut a = crate::records::with_optional(
+        crate::records::asdu(),
+        presence,
+        Presence::Absent,
+        OptionalU16::Absent,
+        OptionalU16::Absent,
+        Presence::Absent,
+    );
+    a.dat_set_len = len;
+    crate::records::pdu(a, 1)
+}
+
+fn with_sv_id(len: usize) -> SavPdu {
+    let mut a = crate::records::asdu();
+    a.msv_id_len = len;
+    crate::records::pdu(a, 1)
+}
+
+// Limits of noASDU, svID, datSet and security.
+fn limits() {
+    let h = crate::records::header();
+    let one = crate::records::pdu(crate::records::asdu(), 1);
+    answer_one(
+        b"noASDU 0: ",
+        h,
+        crate::records::pdu(crate::records::asdu(), 0),
+    );
+    answer_one(b"svID of 127: ", h, with_sv_id(127));
+    answer_one(b"svID of 128: ", h, with_sv_id(128));
+    answer_one(b"datSet of 0: ", h, with_dat_set(Presence::Present, 0));
+    answer_one(b"datSet of 127: ", h, with_dat_set(Presence::Present, 127));
+    answer_one(b"datSet of 200: ", h, with_dat_set(Presence::Present, 200));
+    answer_one(
+        b"datSet of 200, absent: ",
+        h,
+        with_dat_set(Presence::Absent, 200),
+    );
+    answer_one(b"security of 64: ", h, crate::records::secured(one, 64));
+    answer_one(b"security of 65: ", h, crate::records::secured(one, 65));
+    let mut absent = crate::records::pdu(crate::records::asdu(), 1);
+    absent.security_len = 65;
+    answer_one(b"security of 65, absent: ", h, absent);
+}
+
+// EtherType, TPID and quality words.
+fn words() {
+    let h = crate::records::header();
+    let one = crate::records::pdu(crate::records::asdu(), 1);
+    let mut goose = crate::records::header();
+    goose.ether_type = 0x88b8;
+    answer_one(b"EtherType 88B8: ", goose, one);
+    answer_one(b"TPID 8100: ", crate::records::tagged(0x8100, 0x6005), one);
+    answer_one(b"TPID 88A8: ", crate::records::tagged(0x88a8, 0x6005), one);
+    answer(b"quality word 8191: ", h, one, 1, &[1000], &[8191]);
+    answer(b"quality word 8192: ", h, one, 1, &[1000], &[8192]);
+    answer(
+        b"quality word 8192 past the last sample: ",
+        h,
+        one,
+        1,
+        &[1000, 1000],
+        &[0, 8192],
+    );
+}
+
+fn size(name: &[u8], header: EthernetHeader, pdu: SavPdu, channels: usize) {
+    say(name);
+    tell(encode_smv::smv_size(header, pdu, channels));
+    say(b"\n");
+}
+
+// Sizes of the same descriptions.
+fn sizes() {
+    let h = crate::records::header();
+    let one = crate::records::pdu(crate::records::asdu(), 1);
+    size(b"size: ", h, one, 1);
+    size(b"size, 24 channels: ", h, one, 24);
+    size(b"size, 25 channels: ", h, one, 25);
+    size(
+        b"size, noASDU 9: ",
+        h,
+        crate::records::pdu(crate::records::asdu(), 9),
+        1,
+    );
+    size(b"size, PDU of 1492: ", h, long_pdu(111), 0);
+    size(b"size, PDU of 1493: ", h, long_pdu(112), 0);
+    size(
+        b"size, TPID 8100: ",
+        crate::records::tagged(0x8100, 0x6005),
+        one,
+        1,
+    );
+    size(
+        b"size, TPID 88A8: ",
+        crate::records::tagged(0x88a8, 0x6005),
+        one,
+        1,
+    );
+}
