@@ -107,6 +107,9 @@ pub fn nanoseconds(request: &[u8], theirs: &[u8], out: &mut [u8]) -> usize {
     if number32(theirs, 1) as u64 != uncut(fraction) {
         return class::UNEXPLAINED;
     }
+    if octet(theirs, 0) != 0 {
+        return class::UNEXPLAINED;
+    }
     class::LARGE_FRACTION
 }
 

@@ -54,7 +54,7 @@ fn many(s: &[u8], place: usize, octets: usize) -> bool {
     }
 }
 
-// The octets of noASDU: its length has at most two octets that count, since three at most are read.
+// How many octets noASDU has, at most three: the last of the length octets before it.
 fn no_asdu_octets(s: &[u8], place: usize) -> usize {
     octet(s, less(place, 1)) as usize
 }

@@ -3,18 +3,13 @@ use borrow.Author.Needs.{needs}
 use lib.Seq.{length-take-le}
 use Rattle.replay.proofs.octets.first.Statement.{statement}
 use Rattle.replay.proofs.octets.first.Tie as tie
-use Rattle.replay.proofs.octets.first.Reads as reads
-use Rattle.replay.proofs.octets.first.Lts as lts
 
--- src/octets.rt:53:9
 slice-aggregate-result : tie.Need-slice-aggregate-result
 slice-aggregate-result c = search (needs, length-take-le)
 
--- src/octets.rt:53:9
 returns : tie.Need-returns
 returns c = search needs
 
--- src/octets.rt:51:1
 returns-2 : tie.Need-returns-2
 returns-2 c = search needs
 
