@@ -16,17 +16,6 @@ fn bare(name: &[u8], a: SavAsdu) {
     frame(name, cases::header(), cases::pdu(a, 1), 0, &[0], &[0]);
 }
 
-fn dat_set() -> SavAsdu {
-    cases::with_optional(
-        cases::asdu(),
-        Presence::Present,
-        Presence::Absent,
-        OptionalU16::Absent,
-        OptionalU16::Absent,
-        Presence::Absent,
-    )
-}
-
 fn refr_tm() -> SavAsdu {
     cases::with_optional(
         cases::asdu(),
@@ -60,19 +49,8 @@ fn gm_identity() -> SavAsdu {
     )
 }
 
-// svID and datSet of these lengths; a datSet is there where it has octets.
-pub fn texts(sv_id: usize, data_set: usize) -> SavAsdu {
-    let mut a = cases::asdu();
-    if 0 < data_set {
-        a = dat_set();
-    }
-    a.msv_id_len = sv_id;
-    a.dat_set_len = data_set;
-    a
-}
-
 fn empty_dat_set() -> SavAsdu {
-    let mut a = dat_set();
+    let mut a = cases::with_dat_set(Presence::Present);
     a.dat_set_len = 0;
     a
 }
@@ -88,7 +66,11 @@ pub fn print() {
     one(b"with simulation mark", h, simulated);
     one(b"with security", h, cases::secured(p, 16));
     one(b"with empty security", h, cases::secured(p, 0));
-    one(b"with datSet", h, cases::pdu(dat_set(), 1));
+    one(
+        b"with datSet",
+        h,
+        cases::pdu(cases::with_dat_set(Presence::Present), 1),
+    );
     one(b"with empty datSet", h, cases::pdu(empty_dat_set(), 1));
     one(b"with refrTm", h, cases::pdu(refr_tm(), 1));
     let rate = rates(OptionalU16::Present(4000), OptionalU16::Absent);
@@ -96,7 +78,7 @@ pub fn print() {
     let modulus = rates(OptionalU16::Absent, OptionalU16::Present(1));
     one(b"with smpMod", h, cases::pdu(modulus, 1));
     one(b"with gmIdentity", h, cases::pdu(gm_identity(), 1));
-    one(b"with empty svID", h, cases::pdu(texts(0, 0), 1));
+    one(b"with empty svID", h, cases::pdu(cases::texts(0, 0), 1));
 }
 
 // smpCnt, smpRate and smpMod at one number, confRev and smpSynch at others.
@@ -123,53 +105,24 @@ pub fn print_numbers() {
     numbers(b"confRev 4294967295", 1, 4294967295, 1);
 }
 
-// ASDU k of eight: svID MU and the digit k, smpCnt 3,996 + k, every optional field.
-fn numbered(k: u8) -> SavAsdu {
-    let mut a = cases::full_asdu();
-    a.msv_id[0] = b'M';
-    a.msv_id[1] = b'U';
-    a.msv_id[2] = 48 + k % 10;
-    a.msv_id_len = 3;
-    a.smp_cnt = 3996 + k as u16;
-    a
-}
-
-// n of eight ASDUs.
-fn several(n: u16) -> SavPdu {
-    let asdus = [
-        numbered(0),
-        numbered(1),
-        numbered(2),
-        numbered(3),
-        numbered(4),
-        numbered(5),
-        numbered(6),
-        numbered(7),
-    ];
-    let mut p = cases::secured(cases::pdu_of(asdus, n), 16);
-    p.sim = true;
-    p
-}
-
-// A PDU of 1,381 octets and a datSet: six ASDUs without channels, svID of 127 octets, and datSet
-// of 100 in all but the last.
-pub fn long_pdu(len: usize) -> SavPdu {
-    let a = texts(127, 100);
-    let asdus = [a, a, a, a, a, texts(127, len), a, a];
-    cases::pdu_of(asdus, 6)
-}
-
 // Lengths at the boundaries of their forms, and the longest texts, security and PDU.
 pub fn print_lengths() {
-    bare(b"ASDU of 127 octets", texts(114, 0));
-    bare(b"ASDU of 128 octets", texts(115, 0));
-    bare(b"ASDU of 255 octets", texts(127, 113));
-    bare(b"ASDU of 256 octets", texts(127, 114));
-    bare(b"svID and datSet of 127 octets", texts(127, 127));
+    bare(b"ASDU of 127 octets", cases::texts(114, 0));
+    bare(b"ASDU of 128 octets", cases::texts(115, 0));
+    bare(b"ASDU of 255 octets", cases::texts(127, 113));
+    bare(b"ASDU of 256 octets", cases::texts(127, 114));
+    bare(b"svID and datSet of 127 octets", cases::texts(127, 127));
     let h = cases::header();
     let p = cases::pdu(cases::asdu(), 1);
     one(b"security of 64 octets", h, cases::secured(p, 64));
-    frame(b"PDU of 1492 octets", h, long_pdu(111), 0, &[0], &[0]);
+    frame(
+        b"PDU of 1492 octets",
+        h,
+        cases::long_pdu(111),
+        0,
+        &[0],
+        &[0],
+    );
 }
 
 // Counts and quality words that differ from channel to channel.
@@ -193,16 +146,16 @@ pub fn print_sizes() {
     frame(
         b"two ASDUs of two channels",
         h,
-        several(2),
+        cases::numbered(2),
         2,
         &counts,
         &[8191, 1, 4096, 0],
     );
-    filled(b"eight ASDUs of no channel", h, several(8), 0);
+    filled(b"eight ASDUs of no channel", h, cases::numbered(8), 0);
     filled(
         b"eight ASDUs of eight channels",
         cases::tagged(0x8100, 0x6005),
-        several(8),
+        cases::numbered(8),
         8,
     );
 }

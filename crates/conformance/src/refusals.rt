@@ -1,8 +1,6 @@
 // Descriptions that the writer refuses.
 use crate::block::frame;
-use crate::frames::long_pdu;
 use crate::frames::one;
-use crate::frames::texts;
 
 pub fn print() {
     let h = cases::header();
@@ -24,13 +22,28 @@ pub fn print() {
         &[0],
         &[0],
     );
-    one(b"svID of 128 octets", h, cases::pdu(texts(128, 0), 1));
-    one(b"datSet of 128 octets", h, cases::pdu(texts(1, 128), 1));
+    one(
+        b"svID of 128 octets",
+        h,
+        cases::pdu(cases::texts(128, 0), 1),
+    );
+    one(
+        b"datSet of 128 octets",
+        h,
+        cases::pdu(cases::texts(1, 128), 1),
+    );
     one(b"security of 65 octets", h, cases::secured(p, 65));
     let mut goose = cases::header();
     goose.ether_type = 0x88b8;
     one(b"EtherType 88B8", goose, p);
     one(b"TPID 88A8", cases::tagged(0x88a8, 0x6005), p);
     frame(b"quality word 8192", h, p, 1, &[1000], &[8192]);
-    frame(b"PDU of 1493 octets", h, long_pdu(112), 0, &[0], &[0]);
+    frame(
+        b"PDU of 1493 octets",
+        h,
+        cases::long_pdu(112),
+        0,
+        &[0],
+        &[0],
+    );
 }

@@ -5,9 +5,7 @@ use cases::decimal;
 use cases::hex;
 use cases::say;
 use rt_services::EthernetHeader;
-use rt_services::OptionalU16;
 use rt_services::Presence;
-use rt_services::SavAsdu;
 use rt_services::SavPdu;
 
 fn main() {
@@ -98,33 +96,6 @@ fn answer_one(name: &[u8], header: EthernetHeader, pdu: SavPdu) {
     answer(name, header, pdu, 1, &[1000], &[0]);
 }
 
-// ASDU k of eight: svID MU and the digit k, smpCnt 3,996 + k, every optional field.
-fn numbered(k: u8) -> SavAsdu {
-    let mut a = cases::full_asdu();
-    a.msv_id[0] = b'M';
-    a.msv_id[1] = b'U';
-    a.msv_id[2] = 48 + k % 10;
-    a.msv_id_len = 3;
-    a.smp_cnt = 3996 + k as u16;
-    a
-}
-
-fn eight() -> SavPdu {
-    let asdus = [
-        numbered(0),
-        numbered(1),
-        numbered(2),
-        numbered(3),
-        numbered(4),
-        numbered(5),
-        numbered(6),
-        numbered(7),
-    ];
-    let mut p = cases::secured(cases::pdu_of(asdus, 8), 16);
-    p.sim = true;
-    p
-}
-
 // Document 01's frame; and the tagged frame of eight ASDUs of eight channels with every optional
 // field of oracle/recorded.txt, with its size.
 fn frames() {
@@ -143,13 +114,13 @@ fn frames() {
     octets(
         b"eight ASDUs of eight channels: ",
         cases::tagged(0x8100, 0x6005),
-        eight(),
+        cases::numbered(8),
         8,
         &counts,
         &qualities,
     );
     say(b"their size: ");
-    tell(encode_smv::smv_size(cases::tagged(0x8100, 0x6005), eight(), 8));
+    tell(encode_smv::smv_size(cases::tagged(0x8100, 0x6005), cases::numbered(8), 8));
     say(b"\n");
 }
 
@@ -168,30 +139,11 @@ fn numbers() {
     smp_cnt(b"smpCnt 65535: ", 65535);
 }
 
-// A PDU of 1,381 octets and a datSet: six ASDUs without channels, svID of 127 octets, and datSet
-// of 100 in all but the last.
-fn long_pdu(len: usize) -> SavPdu {
-    let mut a = cases::with_optional(
-        cases::asdu(),
-        Presence::Present,
-        Presence::Absent,
-        OptionalU16::Absent,
-        OptionalU16::Absent,
-        Presence::Absent,
-    );
-    a.msv_id_len = 127;
-    a.dat_set_len = 100;
-    let mut last = a;
-    last.dat_set_len = len;
-    let asdus = [a, a, a, a, a, last, a, a];
-    cases::pdu_of(asdus, 6)
-}
-
 // The longest PDU, and one octet more.
 fn lengths() {
     let h = cases::header();
-    answer(b"PDU of 1492: ", h, long_pdu(111), 0, &[0], &[0]);
-    answer(b"PDU of 1493: ", h, long_pdu(112), 0, &[0], &[0]);
+    answer(b"PDU of 1492: ", h, cases::long_pdu(111), 0, &[0], &[0]);
+    answer(b"PDU of 1493: ", h, cases::long_pdu(112), 0, &[0], &[0]);
 }
 
 // Writes document 01's frame.
@@ -243,7 +195,7 @@ fn order() {
     answer(
         b"PDU of 1493, EtherType 88B8: ",
         goose,
-        long_pdu(112),
+        cases::long_pdu(112),
         0,
         &[0],
         &[0],
@@ -252,7 +204,7 @@ fn order() {
     answer_in(
         b"PDU of 1493, short buffer: ",
         h,
-        long_pdu(112),
+        cases::long_pdu(112),
         0,
         &[0],
         &[0],
@@ -262,14 +214,7 @@ fn order() {
 
 // A PDU whose datSet is absent or present and has this length.
 fn with_dat_set(presence: Presence, len: usize) -> SavPdu {
-    let mut a = cases::with_optional(
-        cases::asdu(),
-        presence,
-        Presence::Absent,
-        OptionalU16::Absent,
-        OptionalU16::Absent,
-        Presence::Absent,
-    );
+    let mut a = cases::with_dat_set(presence);
     a.dat_set_len = len;
     cases::pdu(a, 1)
 }
@@ -337,8 +282,8 @@ fn sizes() {
     size(b"size, 24 channels: ", h, one, 24);
     size(b"size, 25 channels: ", h, one, 25);
     size(b"size, noASDU 9: ", h, cases::pdu(cases::asdu(), 9), 1);
-    size(b"size, PDU of 1492: ", h, long_pdu(111), 0);
-    size(b"size, PDU of 1493: ", h, long_pdu(112), 0);
+    size(b"size, PDU of 1492: ", h, cases::long_pdu(111), 0);
+    size(b"size, PDU of 1493: ", h, cases::long_pdu(112), 0);
     size(b"size, TPID 8100: ", cases::tagged(0x8100, 0x6005), one, 1);
     size(b"size, TPID 88A8: ", cases::tagged(0x88a8, 0x6005), one, 1);
 }
