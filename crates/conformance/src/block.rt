@@ -1,8 +1,8 @@
 // The two kinds of block.
 use crate::describe;
+use crate::print::decimal;
+use crate::print::say;
 use ber_encode::Written;
-use cases::decimal;
-use cases::say;
 use decode_smv::SavRead;
 use rt_services::EthernetHeader;
 use rt_services::SavDataSetConfig;

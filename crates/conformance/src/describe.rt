@@ -1,10 +1,10 @@
 // Prints a description, a field to a line.
-use cases::decimal;
-use cases::hex;
-use cases::hex16;
-use cases::plus;
-use cases::say;
-use cases::signed;
+use crate::octets::plus;
+use crate::print::decimal;
+use crate::print::hex;
+use crate::print::hex16;
+use crate::print::say;
+use crate::print::signed;
 use rt_services::EthernetHeader;
 use rt_services::OptionalU16;
 use rt_services::Presence;

@@ -13,12 +13,19 @@ pub fn one(name: &[u8], header: EthernetHeader, pdu: SavPdu) {
 
 // Document 01's frame with another ASDU, without channels.
 fn bare(name: &[u8], a: SavAsdu) {
-    frame(name, cases::header(), cases::pdu(a, 1), 0, &[0], &[0]);
+    frame(
+        name,
+        crate::records::header(),
+        crate::records::pdu(a, 1),
+        0,
+        &[0],
+        &[0],
+    );
 }
 
 fn refr_tm() -> SavAsdu {
-    cases::with_optional(
-        cases::asdu(),
+    crate::records::with_optional(
+        crate::records::asdu(),
         Presence::Absent,
         Presence::Present,
         OptionalU16::Absent,
@@ -28,8 +35,8 @@ fn refr_tm() -> SavAsdu {
 }
 
 fn rates(smp_rate: OptionalU16, smp_mod: OptionalU16) -> SavAsdu {
-    cases::with_optional(
-        cases::asdu(),
+    crate::records::with_optional(
+        crate::records::asdu(),
         Presence::Absent,
         Presence::Absent,
         smp_rate,
@@ -39,8 +46,8 @@ fn rates(smp_rate: OptionalU16, smp_mod: OptionalU16) -> SavAsdu {
 }
 
 fn gm_identity() -> SavAsdu {
-    cases::with_optional(
-        cases::asdu(),
+    crate::records::with_optional(
+        crate::records::asdu(),
         Presence::Absent,
         Presence::Absent,
         OptionalU16::Absent,
@@ -50,35 +57,43 @@ fn gm_identity() -> SavAsdu {
 }
 
 fn empty_dat_set() -> SavAsdu {
-    let mut a = cases::with_dat_set(Presence::Present);
+    let mut a = crate::records::with_dat_set(Presence::Present);
     a.dat_set_len = 0;
     a
 }
 
 // Document 01's frame; VLAN, simulation mark, security, and each optional field by itself.
 pub fn print() {
-    let h = cases::header();
-    let p = cases::pdu(cases::asdu(), 1);
+    let h = crate::records::header();
+    let p = crate::records::pdu(crate::records::asdu(), 1);
     one(b"of document 01", h, p);
-    one(b"with VLAN", cases::tagged(0x8100, 0x6005), p);
-    let mut simulated = cases::pdu(cases::asdu(), 1);
+    one(b"with VLAN", crate::records::tagged(0x8100, 0x6005), p);
+    let mut simulated = crate::records::pdu(crate::records::asdu(), 1);
     simulated.sim = true;
     one(b"with simulation mark", h, simulated);
-    one(b"with security", h, cases::secured(p, 16));
-    one(b"with empty security", h, cases::secured(p, 0));
+    one(b"with security", h, crate::records::secured(p, 16));
+    one(b"with empty security", h, crate::records::secured(p, 0));
     one(
         b"with datSet",
         h,
-        cases::pdu(cases::with_dat_set(Presence::Present), 1),
+        crate::records::pdu(crate::records::with_dat_set(Presence::Present), 1),
     );
-    one(b"with empty datSet", h, cases::pdu(empty_dat_set(), 1));
-    one(b"with refrTm", h, cases::pdu(refr_tm(), 1));
+    one(
+        b"with empty datSet",
+        h,
+        crate::records::pdu(empty_dat_set(), 1),
+    );
+    one(b"with refrTm", h, crate::records::pdu(refr_tm(), 1));
     let rate = rates(OptionalU16::Present(4000), OptionalU16::Absent);
-    one(b"with smpRate", h, cases::pdu(rate, 1));
+    one(b"with smpRate", h, crate::records::pdu(rate, 1));
     let modulus = rates(OptionalU16::Absent, OptionalU16::Present(1));
-    one(b"with smpMod", h, cases::pdu(modulus, 1));
-    one(b"with gmIdentity", h, cases::pdu(gm_identity(), 1));
-    one(b"with empty svID", h, cases::pdu(cases::texts(0, 0), 1));
+    one(b"with smpMod", h, crate::records::pdu(modulus, 1));
+    one(b"with gmIdentity", h, crate::records::pdu(gm_identity(), 1));
+    one(
+        b"with empty svID",
+        h,
+        crate::records::pdu(crate::records::texts(0, 0), 1),
+    );
 }
 
 // smpCnt, smpRate and smpMod at one number, confRev and smpSynch at others.
@@ -107,18 +122,21 @@ pub fn print_numbers() {
 
 // Lengths at the boundaries of their forms, and the longest texts, security and PDU.
 pub fn print_lengths() {
-    bare(b"ASDU of 127 octets", cases::texts(114, 0));
-    bare(b"ASDU of 128 octets", cases::texts(115, 0));
-    bare(b"ASDU of 255 octets", cases::texts(127, 113));
-    bare(b"ASDU of 256 octets", cases::texts(127, 114));
-    bare(b"svID and datSet of 127 octets", cases::texts(127, 127));
-    let h = cases::header();
-    let p = cases::pdu(cases::asdu(), 1);
-    one(b"security of 64 octets", h, cases::secured(p, 64));
+    bare(b"ASDU of 127 octets", crate::records::texts(114, 0));
+    bare(b"ASDU of 128 octets", crate::records::texts(115, 0));
+    bare(b"ASDU of 255 octets", crate::records::texts(127, 113));
+    bare(b"ASDU of 256 octets", crate::records::texts(127, 114));
+    bare(
+        b"svID and datSet of 127 octets",
+        crate::records::texts(127, 127),
+    );
+    let h = crate::records::header();
+    let p = crate::records::pdu(crate::records::asdu(), 1);
+    one(b"security of 64 octets", h, crate::records::secured(p, 64));
     frame(
         b"PDU of 1492 octets",
         h,
-        cases::long_pdu(111),
+        crate::records::long_pdu(111),
         0,
         &[0],
         &[0],
@@ -128,16 +146,16 @@ pub fn print_lengths() {
 // Counts and quality words that differ from channel to channel.
 fn filled(name: &[u8], header: EthernetHeader, pdu: SavPdu, channels: usize) {
     let mut counts = [0; 64];
-    cases::fill_counts(&mut counts);
+    crate::samples::fill_counts(&mut counts);
     let mut qualities = [0; 64];
-    cases::fill_qualities(&mut qualities);
+    crate::samples::fill_qualities(&mut qualities);
     frame(name, header, pdu, channels, &counts, &qualities);
 }
 
 // Numbers of channels and of ASDUs; counts and quality words at their limits.
 pub fn print_sizes() {
-    let h = cases::header();
-    let p = cases::pdu(cases::asdu(), 1);
+    let h = crate::records::header();
+    let p = crate::records::pdu(crate::records::asdu(), 1);
     filled(b"of no channel", h, p, 0);
     filled(b"of 15 channels", h, p, 15);
     filled(b"of 16 channels", h, p, 16);
@@ -146,16 +164,21 @@ pub fn print_sizes() {
     frame(
         b"two ASDUs of two channels",
         h,
-        cases::numbered(2),
+        crate::records::numbered(2),
         2,
         &counts,
         &[8191, 1, 4096, 0],
     );
-    filled(b"eight ASDUs of no channel", h, cases::numbered(8), 0);
+    filled(
+        b"eight ASDUs of no channel",
+        h,
+        crate::records::numbered(8),
+        0,
+    );
     filled(
         b"eight ASDUs of eight channels",
-        cases::tagged(0x8100, 0x6005),
-        cases::numbered(8),
+        crate::records::tagged(0x8100, 0x6005),
+        crate::records::numbered(8),
         8,
     );
 }

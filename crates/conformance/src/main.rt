@@ -1,12 +1,17 @@
 // Prints the conformance list: frames with their descriptions, descriptions that a writer refuses,
 // and octets with what reading answers. The list's format stands in its own first lines.
 mod block;
+mod calls;
 mod describe;
 mod frames;
+mod octets;
+mod print;
 mod reads;
+mod records;
 mod refusals;
+mod samples;
 
-use cases::say;
+use crate::print::say;
 
 fn main() {
     print_format();
@@ -17,6 +22,7 @@ fn main() {
     frames::print_sizes();
     refusals::print();
     reads::print();
+    calls::print();
 }
 
 // The first lines: what blocks there are.

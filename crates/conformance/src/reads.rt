@@ -1,8 +1,8 @@
 // Octets to read: document 01's frame, whole, cut, and with octets replaced.
 use crate::block::read;
-use cases::after;
-use cases::first;
-use cases::put_all;
+use crate::octets::after;
+use crate::octets::first;
+use crate::octets::put_all;
 
 // Document 01's frame. Places: 12 EtherType, 16 Length, 18 reserved, 22 PDU, 24 noASDU, 27 ASDUs, 29
 // ASDU, 31 svID, 34 smpCnt, 37 confRev, 40 smpSynch, 43 samples.
@@ -27,7 +27,7 @@ fn cut(name: &[u8], n: usize) {
 
 // The frame with another octet at a place.
 fn other(name: &[u8], at: usize, octet: u8) {
-    replaced(name, at, cases::plus(at, 1), &[octet]);
+    replaced(name, at, crate::octets::plus(at, 1), &[octet]);
 }
 
 pub fn print() {
@@ -114,7 +114,12 @@ fn long_text(name: &[u8], from: usize, to: usize, tag: u8, len: u8) {
     text[0] = tag;
     text[1] = 0x81;
     text[2] = len;
-    replaced(name, from, to, first(&text, cases::plus(3, len as usize)));
+    replaced(
+        name,
+        from,
+        to,
+        first(&text, crate::octets::plus(3, len as usize)),
+    );
 }
 
 // What is too long to hold.

@@ -1,8 +1,8 @@
 // Words and numbers of a line.
-use cases::after;
-use cases::first;
-use cases::plus;
-use cases::put;
+use crate::octets::after;
+use crate::octets::first;
+use crate::octets::plus;
+use crate::octets::put;
 
 // The octet at a place, or 0 past the end.
 pub fn octet(s: &[u8], at: usize) -> u8 {

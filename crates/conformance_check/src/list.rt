@@ -5,7 +5,7 @@ use crate::line::octet;
 use crate::line::octets_of;
 use crate::line::rest;
 use crate::line::word;
-use cases::plus;
+use crate::octets::plus;
 use check::same;
 
 // Places among the numbers. The first three count blocks of a kind: frames that were written,

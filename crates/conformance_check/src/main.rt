@@ -2,13 +2,15 @@
 // many blocks differ from what they say. The list's format stands in its first lines.
 mod line;
 mod list;
+mod octets;
+mod print;
 mod reading;
 
-use cases::after;
-use cases::decimal;
-use cases::first;
-use cases::plus;
-use cases::say;
+use crate::octets::after;
+use crate::octets::first;
+use crate::octets::plus;
+use crate::print::decimal;
+use crate::print::say;
 use libc::STDIN_FILENO;
 use list::BLOCKS;
 use list::DIFFER;

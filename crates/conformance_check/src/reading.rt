@@ -5,8 +5,8 @@ use crate::list;
 use crate::list::field_place;
 use crate::list::get;
 use crate::list::sample_place;
-use cases::first;
-use cases::plus;
+use crate::octets::first;
+use crate::octets::plus;
 use decode_smv::SavRead;
 use rt_services::EthernetHeader;
 use rt_services::OptionalU16;
@@ -132,7 +132,7 @@ fn asdus_are(asdus: [SavAsdu; SavPdu::MAX_ASDUS], n: usize, values: &[usize]) ->
 
 // A count as the list's numbers have it.
 fn count_of(count: i32) -> u64 {
-    let n = cases::magnitude(count);
+    let n = crate::print::magnitude(count);
     if 4294967296 < n {
         return 0;
     }

@@ -74,6 +74,9 @@ pub const WIDE_QUALITY: usize = 24;
 // Alike by the writer of counts; ASDUs with different scale factors can't be described to the writer of values.
 pub const OTHER_SCALES: usize = 25;
 
+// The Rust's sum of index and length overflows, in the integer reader by itself; ours is refusal 1 at the index.
+pub const PANIC_SUM: usize = 26;
+
 // The status of a panic.
 pub const PANICKED: u8 = 2;
 
@@ -109,6 +112,7 @@ pub fn print_name(class: usize) {
         23 => say(b"PDU above 1,492 octets: refused 10"),
         24 => say(b"answered alike, quality bits 13 to 31 cleared: refused 9 with them"),
         25 => say(b"answered alike, scale factors that differ: by the writer of counts"),
+        26 => say(b"the Rust panics, index plus length of 2^64 or more: refused 1 at the index"),
         _ => say(b"no class"),
     }
 }
@@ -132,7 +136,7 @@ pub fn same_or(ours: &[u8], theirs: &[u8], class: usize) -> usize {
     UNEXPLAINED
 }
 
-// The class, where ours is refusal 1 at a place.
+// The class, where ours is refusal 1 at this place.
 pub fn at_end(ours: &[u8], place: usize, class: usize) -> usize {
     if number16(ours, 0) != 257 {
         return UNEXPLAINED;

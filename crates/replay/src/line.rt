@@ -91,9 +91,18 @@ fn space(s: &[u8]) -> usize {
     i
 }
 
+// Only a description can be one that the Rust can't hold, with a text that isn't UTF-8.
+fn not_asked(kind: u8) -> usize {
+    match kind {
+        b'e' => class::NOT_ASKED,
+        b's' => class::NOT_ASKED,
+        _ => class::UNEXPLAINED,
+    }
+}
+
 fn judge(kind: u8, request: &[u8], theirs: &[u8], ours: &mut [u8]) -> usize {
     if octet(theirs, 0) == 3 {
-        return class::NOT_ASKED;
+        return not_asked(kind);
     }
     match kind {
         b'q' => crate::of_types::quality(request, theirs, ours),

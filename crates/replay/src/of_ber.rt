@@ -64,9 +64,21 @@ pub fn integer(request: &[u8], theirs: &[u8], out: &mut [u8]) -> usize {
     let number = start.integer(s, width_of(octet(request, 0)), number64(request, 9));
     let at = put_number(out, number);
     if octet(theirs, 0) == class::PANICKED {
-        return class::at_end(first(out, at), s.len(), class::PANIC_AT_END);
+        return panicked(request, theirs, first(out, at), s.len());
     }
     class::alike(first(out, at), theirs)
+}
+
+// The Rust panics at the end of the buffer, or where index plus length is 2^64 or more; there our place is the index.
+fn panicked(request: &[u8], theirs: &[u8], ours: &[u8], end: usize) -> usize {
+    let index = number64(request, 1);
+    if octet(theirs, 1) != 3 {
+        return class::at_end(ours, end, class::PANIC_AT_END);
+    }
+    if number64(request, 9) <= 18446744073709551615 - index {
+        return class::UNEXPLAINED;
+    }
+    class::at_end(ours, index, class::PANIC_SUM)
 }
 
 // The answer of the length writer with its whole buffer.

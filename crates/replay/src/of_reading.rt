@@ -252,9 +252,8 @@ fn all_utf8(r: SavRead) -> bool {
     true
 }
 
-// The class of two answers: those that are alike are told apart by whether their texts are UTF-8.
-fn class_of(s: &[u8], channels: usize, theirs: &[u8], ours: &[u8], r: SavRead) -> usize {
-    let found = reading_class::class_of(s, channels, theirs, ours);
+// Those that are alike are told apart by whether their texts are UTF-8.
+fn by_text(found: usize, r: SavRead) -> usize {
     if found != class::ANSWERED {
         return found;
     }
@@ -273,13 +272,26 @@ pub fn frame(request: &[u8], theirs: &[u8], out: &mut [u8]) -> usize {
     let r = decode_smv::read_frame(s, channels, &mut counts, &mut qualities);
     if r.number != 0 {
         let at = put_refusal(out, r.number, r.place);
-        return class_of(s, channels, theirs, first(out, at), r);
+        return reading_class::class_of_frame(s, channels, theirs, first(out, at));
     }
     let header = r.header;
     let at = put(out, 0, 0);
     let at = put_header(out, at, header);
     let at = put_pdu(out, at, r, scales, &counts, &qualities);
-    class_of(s, channels, theirs, first(out, at), r)
+    by_text(
+        reading_class::class_of_frame(s, channels, theirs, first(out, at)),
+        r,
+    )
+}
+
+// The class, where the Rust answered, with a blank header before its PDU.
+fn with_answer(found: usize, theirs: &[u8]) -> usize {
+    let mut answer = [0u8; 4096];
+    if found != class::LIMIT_ANSWERED {
+        return found;
+    }
+    let at = put_octets(&mut answer, 23, after(theirs, 1));
+    reading_class::with_answer(found, first(&answer, at))
 }
 
 pub fn pdu(request: &[u8], theirs: &[u8], out: &mut [u8]) -> usize {
@@ -292,11 +304,15 @@ pub fn pdu(request: &[u8], theirs: &[u8], out: &mut [u8]) -> usize {
     let r = decode_smv::decode_smv(s, start, channels, &mut counts, &mut qualities);
     if r.number != 0 {
         let at = put_refusal(out, r.number, r.place);
-        return class_of(s, channels, theirs, first(out, at), r);
+        let found = reading_class::class_of(s, start, channels, theirs, first(out, at));
+        return with_answer(found, theirs);
     }
     let at = put(out, 0, 0);
     let at = put_pdu(out, at, r, scales, &counts, &qualities);
-    class_of(s, channels, theirs, first(out, at), r)
+    by_text(
+        reading_class::class_of(s, start, channels, theirs, first(out, at)),
+        r,
+    )
 }
 
 pub fn header(request: &[u8], theirs: &[u8], out: &mut [u8]) -> usize {
@@ -305,10 +321,7 @@ pub fn header(request: &[u8], theirs: &[u8], out: &mut [u8]) -> usize {
     let HeaderEnd::Next(next) = step else {
         let refusal = step.refusal();
         let at = put_refusal(out, refusal.number, refusal.place);
-        if octet(theirs, 0) == class::PANICKED {
-            return class::at_end(first(out, at), request.len(), class::PANIC_AT_END);
-        }
-        return class::UNEXPLAINED;
+        return reading_class::of_header(request, theirs, first(out, at));
     };
     let header = found.header;
     let at = put(out, 0, 0);

@@ -104,7 +104,15 @@ pub fn nanoseconds(request: &[u8], theirs: &[u8], out: &mut [u8]) -> usize {
     if fraction < 16777216 {
         return class::UNEXPLAINED;
     }
+    if number32(theirs, 1) as u64 != uncut(fraction) {
+        return class::UNEXPLAINED;
+    }
     class::LARGE_FRACTION
+}
+
+// What the Rust answers: the nanoseconds of all 32 bits, cut to 32 bits.
+fn uncut(fraction: u32) -> u64 {
+    fraction as u64 * 1000000000 / 16777216 % 4294967296
 }
 
 fn time_of(request: &[u8]) -> Timestamp {

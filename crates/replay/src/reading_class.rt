@@ -1,10 +1,13 @@
 // The class of two answers of a reader. The Rust has no limits, and panics where this project refuses.
 use crate::class;
+use crate::description;
+use crate::octets::after;
 use crate::octets::less;
 use crate::octets::number16;
 use crate::octets::number64;
 use crate::octets::octet;
 use crate::octets::plus;
+use crate::writing_class;
 
 // Whether the content at a place is longer than a limit, by the length octets before it, in the form of one octet or of 81,
 // of 82, or of 83.
@@ -22,24 +25,62 @@ fn longer(s: &[u8], place: usize, limit: usize) -> bool {
     false
 }
 
-// Whether the integer at a place can be noASDU above 8.
-fn many(s: &[u8], place: usize) -> bool {
-    match octet(s, less(place, 1)) {
-        0 => 0x80 <= octet(s, place),
-        1 => 8 < octet(s, place),
-        2 => 8 < number16(s, place),
-        3 => 0x80 <= octet(s, plus(place, 1)),
-        _ => false,
+// The octets of the tag and the length at a place.
+fn head_size(s: &[u8], at: usize) -> usize {
+    match octet(s, plus(at, 1)) {
+        0x81 => 3,
+        0x82 => 4,
+        0x83 => 5,
+        _ => 2,
     }
 }
 
-// Refused 4: what stands at the place is above a limit. Where the Rust refuses, it does so further on.
-fn limit(s: &[u8], theirs: &[u8], ours: &[u8]) -> usize {
-    let place = number64(ours, 2);
-    if !many(s, place) {
-        if !longer(s, place, 64) {
-            return class::UNEXPLAINED;
+fn after_head(s: &[u8], at: usize) -> usize {
+    plus(at, head_size(s, at))
+}
+
+// The place of noASDU's first content octet, in a PDU from start on.
+fn no_asdu_at(s: &[u8], start: usize) -> usize {
+    after_head(s, after_head(s, start))
+}
+
+// Whether noASDU, of so many octets at a place, is above 8.
+fn many(s: &[u8], place: usize, octets: usize) -> bool {
+    match octets {
+        0 => 0x80 <= octet(s, place),
+        1 => 8 < octet(s, place),
+        2 => 8 < number16(s, place),
+        _ => octets == 3,
+    }
+}
+
+// The octets of noASDU: its length has at most two octets that count, since three at most are read.
+fn no_asdu_octets(s: &[u8], place: usize) -> usize {
+    octet(s, less(place, 1)) as usize
+}
+
+// Whether what stands at a place is above its limit: noASDU 8, security 64, svID and datSet 127.
+fn above(s: &[u8], start: usize, place: usize) -> bool {
+    let no_asdu = no_asdu_at(s, start);
+    let octets = no_asdu_octets(s, no_asdu);
+    if place == no_asdu {
+        return many(s, place, octets);
+    }
+    let next = plus(no_asdu, octets);
+    if place == after_head(s, next) {
+        if octet(s, next) != 0x81 {
+            return false;
         }
+        return longer(s, place, 64);
+    }
+    longer(s, place, 127)
+}
+
+// Refused 4: what stands at the place is above its limit. Where the Rust refuses, it does so there or further on.
+fn limit(s: &[u8], start: usize, theirs: &[u8], ours: &[u8]) -> usize {
+    let place = number64(ours, 2);
+    if !above(s, start, place) {
+        return class::UNEXPLAINED;
     }
     match octet(theirs, 0) {
         0 => class::LIMIT_ANSWERED,
@@ -51,6 +92,23 @@ fn limit(s: &[u8], theirs: &[u8], ours: &[u8]) -> usize {
         }
         _ => class::LIMIT_PANICKED,
     }
+}
+
+// The class where the Rust answered, with a header and a PDU in which something has to be above a limit.
+pub fn with_answer(found: usize, answer: &[u8]) -> usize {
+    if found != class::LIMIT_ANSWERED {
+        return found;
+    }
+    if 8 < description::records(answer) {
+        return found;
+    }
+    if 64 < description::security_length(answer) {
+        return found;
+    }
+    if writing_class::has_long_text(answer) {
+        return found;
+    }
+    class::UNEXPLAINED
 }
 
 // Whether a place is that of the first content octet of refrTm, by the tag 84 and the length octets before it.
@@ -70,20 +128,27 @@ fn after_84(s: &[u8], place: usize) -> bool {
     false
 }
 
-// Refused 1 where the Rust panics: fewer than 8 octets of refrTm, or an octet past the end.
-fn too_soon(s: &[u8], theirs: &[u8], place: usize) -> usize {
-    let index = octet(theirs, 1) == 1;
-    if index {
-        if place == s.len() {
-            return class::PANIC_AT_END;
-        }
-        return class::UNEXPLAINED;
+// Whether octets are too few for the header.
+fn lacks_header(s: &[u8]) -> bool {
+    if s.len() < 18 {
+        return true;
     }
-    if s.len() < 22 {
-        if place == s.len() {
-            return class::PANIC_HEADER;
-        }
+    if 21 < s.len() {
+        return false;
     }
+    number16(s, 12) == 0x8100
+}
+
+// Refused 1 where the Rust panics by an index: an octet past the end.
+fn past_end(s: &[u8], place: usize) -> usize {
+    if place == s.len() {
+        return class::PANIC_AT_END;
+    }
+    class::UNEXPLAINED
+}
+
+// Refused 1 where the Rust panics by a range: fewer than 8 octets of refrTm.
+fn lacks_refr_tm(s: &[u8], place: usize) -> usize {
     if s.len() < place {
         return class::UNEXPLAINED;
     }
@@ -96,17 +161,28 @@ fn too_soon(s: &[u8], theirs: &[u8], place: usize) -> usize {
     class::UNEXPLAINED
 }
 
-// The Rust panics.
+// Refused 5 where the Rust panics by a copy: gmIdentity above 8 octets.
+fn long_gm_identity(s: &[u8], place: usize) -> usize {
+    if longer(s, place, 8) {
+        return class::PANIC_GM_IDENTITY;
+    }
+    class::UNEXPLAINED
+}
+
+// The Rust panics, by an index (1) or by a range or a copy (2).
 fn panicked(s: &[u8], theirs: &[u8], ours: &[u8]) -> usize {
     let place = number64(ours, 2);
+    let by = octet(theirs, 1);
     match number16(ours, 0) {
-        257 => too_soon(s, theirs, place),
-        261 => {
-            if !longer(s, place, 8) {
-                return class::UNEXPLAINED;
+        257 => {
+            if by == 1 {
+                return past_end(s, place);
             }
-            if octet(theirs, 1) == 2 {
-                return class::PANIC_GM_IDENTITY;
+            lacks_refr_tm(s, place)
+        }
+        261 => {
+            if by == 2 {
+                return long_gm_identity(s, place);
             }
             class::UNEXPLAINED
         }
@@ -114,7 +190,30 @@ fn panicked(s: &[u8], theirs: &[u8], ours: &[u8]) -> usize {
     }
 }
 
-pub fn class_of(s: &[u8], channels: usize, theirs: &[u8], ours: &[u8]) -> usize {
+// The class where a frame is shorter than its header, which is refused before any limit.
+pub fn of_header(s: &[u8], theirs: &[u8], ours: &[u8]) -> usize {
+    if octet(theirs, 0) != class::PANICKED {
+        return class::UNEXPLAINED;
+    }
+    class::at_end(ours, s.len(), class::PANIC_HEADER)
+}
+
+// The class of the frame reader's answers.
+pub fn class_of_frame(s: &[u8], channels: usize, theirs: &[u8], ours: &[u8]) -> usize {
+    let answer = after(theirs, 1);
+    if channels <= 24 {
+        if lacks_header(s) {
+            return of_header(s, theirs, ours);
+        }
+    }
+    if number16(s, 12) == 0x8100 {
+        return with_answer(class_of(s, 26, channels, theirs, ours), answer);
+    }
+    with_answer(class_of(s, 22, channels, theirs, ours), answer)
+}
+
+// The class of the answers for a PDU from start on.
+pub fn class_of(s: &[u8], start: usize, channels: usize, theirs: &[u8], ours: &[u8]) -> usize {
     if 24 < channels {
         if number16(ours, 0) == 264 {
             if number64(ours, 2) == 0 {
@@ -124,7 +223,7 @@ pub fn class_of(s: &[u8], channels: usize, theirs: &[u8], ours: &[u8]) -> usize 
         return class::UNEXPLAINED;
     }
     if number16(ours, 0) == 260 {
-        return limit(s, theirs, ours);
+        return limit(s, start, theirs, ours);
     }
     if octet(theirs, 0) == class::PANICKED {
         return panicked(s, theirs, ours);

@@ -48,7 +48,7 @@ fn long_texts(request: &[u8], record: usize) -> bool {
     127 < number16(request, plus(description::dat_set_at(request, record), 1))
 }
 
-fn has_long_text(request: &[u8]) -> bool {
+pub fn has_long_text(request: &[u8]) -> bool {
     let n = description::records(request);
     let mut at = description::first_record(request);
     let mut k = 0;

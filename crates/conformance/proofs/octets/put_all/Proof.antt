@@ -3,8 +3,8 @@ use mathlib.Core.Path.{_≡_}
 use Prim.Native.Nat.{_-_}
 use borrow.Author.Needs.{needs}
 use lib.ListN.{length}
-use Rattle.cases.proofs.octets.put_all.Statement.{statement}
-use Rattle.cases.proofs.octets.put_all.Tie as tie
+use Rattle.conformance.proofs.octets.put_all.Statement.{statement}
+use Rattle.conformance.proofs.octets.put_all.Tie as tie
 
 abbrev Inv-loop : tie.InvT-loop
 Inv-loop out₀ at s to₀ i₀ out to i = length out ≡ length out₀

@@ -1,8 +1,8 @@
 -- The first n of a slice: they are at most all.
 use borrow.Author.Needs.{needs}
 use lib.Seq.{length-take-le}
-use Rattle.cases.proofs.octets.first.Statement.{statement}
-use Rattle.cases.proofs.octets.first.Tie as tie
+use Rattle.conformance_check.proofs.octets.first.Statement.{statement}
+use Rattle.conformance_check.proofs.octets.first.Tie as tie
 
 slice-aggregate-result : tie.Need-slice-aggregate-result
 slice-aggregate-result c = search (needs, length-take-le)

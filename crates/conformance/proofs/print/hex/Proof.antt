@@ -1,8 +1,8 @@
 -- Each turn prints one octet.
 use borrow.Author.Needs.{needs}
 use Prim.Native.Nat.{_-_, _≤_}
-use Rattle.cases.proofs.print.hex.Statement.{statement}
-use Rattle.cases.proofs.print.hex.Tie as tie
+use Rattle.conformance.proofs.print.hex.Statement.{statement}
+use Rattle.conformance.proofs.print.hex.Tie as tie
 
 abbrev Inv-loop : tie.InvT-loop
 Inv-loop s n i₀ i = i ≤ n

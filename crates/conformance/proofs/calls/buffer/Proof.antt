@@ -1,8 +1,8 @@
 -- The first octets of a slice: they are at most all. Assumes nothing.
 use borrow.Author.Needs.{needs}
 use lib.Seq.{length-take-le}
-use Rattle.encode_smv_test.proofs.buffer.Statement.{statement}
-use Rattle.encode_smv_test.proofs.buffer.Tie as tie
+use Rattle.conformance.proofs.calls.buffer.Statement.{statement}
+use Rattle.conformance.proofs.calls.buffer.Tie as tie
 
 slice-aggregate-frame : tie.Need-slice-aggregate-frame
 slice-aggregate-frame c = search needs

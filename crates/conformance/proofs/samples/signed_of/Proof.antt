@@ -8,8 +8,8 @@ use mir.Syntax.{w32}
 use mir.Val.{toZ, SFits}
 use mir.ValLaws.{toZ-pos}
 use borrow.Author.Needs.{needs}
-use Rattle.cases.proofs.samples.signed_of.Statement.{statement}
-use Rattle.cases.proofs.samples.signed_of.Tie as tie
+use Rattle.conformance.proofs.samples.signed_of.Statement.{statement}
+use Rattle.conformance.proofs.samples.signed_of.Tie as tie
 
 minus-one : (n : ℕ) → negsuc 0 -ℤ pos n ≡ negsuc n
 minus-one zero = refl

@@ -1,14 +1,18 @@
 // Cases of document 01 and of the Rust's recorded answers, written by `encode_smv` and printed, a
-// line each.
+// line each: buffers, the order of refusals, limits and sizes.
+use crate::print::decimal;
+use crate::print::hex;
+use crate::print::say;
 use ber_encode::Written;
-use cases::decimal;
-use cases::hex;
-use cases::say;
 use rt_services::EthernetHeader;
 use rt_services::Presence;
 use rt_services::SavPdu;
 
-fn main() {
+pub fn print() {
+    say(
+        b"\n# Calls of the writer, a line each: buffers of so many octets, each EE before the call, and the order\n",
+    );
+    say(b"# of refusals. Numbers and places as above.\n");
     frames();
     numbers();
     lengths();
@@ -101,34 +105,45 @@ fn answer_one(name: &[u8], header: EthernetHeader, pdu: SavPdu) {
 fn frames() {
     octets(
         b"frame: ",
-        cases::header(),
-        cases::pdu(cases::asdu(), 1),
+        crate::records::header(),
+        crate::records::pdu(crate::records::asdu(), 1),
         1,
         &[1000],
         &[0],
     );
     let mut counts = [0; 64];
-    cases::fill_counts(&mut counts);
+    crate::samples::fill_counts(&mut counts);
     let mut qualities = [0; 64];
-    cases::fill_qualities(&mut qualities);
+    crate::samples::fill_qualities(&mut qualities);
     octets(
         b"eight ASDUs of eight channels: ",
-        cases::tagged(0x8100, 0x6005),
-        cases::numbered(8),
+        crate::records::tagged(0x8100, 0x6005),
+        crate::records::numbered(8),
         8,
         &counts,
         &qualities,
     );
     say(b"their size: ");
-    tell(encode_smv::smv_size(cases::tagged(0x8100, 0x6005), cases::numbered(8), 8));
+    tell(encode_smv::smv_size(
+        crate::records::tagged(0x8100, 0x6005),
+        crate::records::numbered(8),
+        8,
+    ));
     say(b"\n");
 }
 
 // The frame with this smpCnt, without channels.
 fn smp_cnt(name: &[u8], smp_cnt: u16) {
-    let mut a = cases::asdu();
+    let mut a = crate::records::asdu();
     a.smp_cnt = smp_cnt;
-    octets(name, cases::header(), cases::pdu(a, 1), 0, &[0], &[0]);
+    octets(
+        name,
+        crate::records::header(),
+        crate::records::pdu(a, 1),
+        0,
+        &[0],
+        &[0],
+    );
 }
 
 // smpCnt of document 01's table.
@@ -141,15 +156,29 @@ fn numbers() {
 
 // The longest PDU, and one octet more.
 fn lengths() {
-    let h = cases::header();
-    answer(b"PDU of 1492: ", h, cases::long_pdu(111), 0, &[0], &[0]);
-    answer(b"PDU of 1493: ", h, cases::long_pdu(112), 0, &[0], &[0]);
+    let h = crate::records::header();
+    answer(
+        b"PDU of 1492: ",
+        h,
+        crate::records::long_pdu(111),
+        0,
+        &[0],
+        &[0],
+    );
+    answer(
+        b"PDU of 1493: ",
+        h,
+        crate::records::long_pdu(112),
+        0,
+        &[0],
+        &[0],
+    );
 }
 
 // Writes document 01's frame.
 fn frame_in(frame: &mut [u8]) -> Written {
-    let pdu = cases::pdu(cases::asdu(), 1);
-    encode_smv::encode_smv(cases::header(), pdu, 1, &[1000], &[0], frame)
+    let pdu = crate::records::pdu(crate::records::asdu(), 1);
+    encode_smv::encode_smv(crate::records::header(), pdu, 1, &[1000], &[0], frame)
 }
 
 // Writes it into the first `room` of 56 octets EE, and prints them all.
@@ -176,10 +205,10 @@ fn buffers() {
 
 // Which of two refusals comes first: 8, 7 for the arrays, 9, 10, 7 for the frame.
 fn order() {
-    let h = cases::header();
-    let one = cases::pdu(cases::asdu(), 1);
-    let nine = cases::pdu(cases::asdu(), 9);
-    let mut goose = cases::header();
+    let h = crate::records::header();
+    let one = crate::records::pdu(crate::records::asdu(), 1);
+    let nine = crate::records::pdu(crate::records::asdu(), 9);
+    let mut goose = crate::records::header();
     goose.ether_type = 0x88b8;
     answer(b"25 channels, short arrays: ", h, one, 25, &[0], &[0]);
     answer(b"noASDU 9, short counts: ", h, nine, 1, &[0; 8], &[0; 9]);
@@ -195,7 +224,7 @@ fn order() {
     answer(
         b"PDU of 1493, EtherType 88B8: ",
         goose,
-        cases::long_pdu(112),
+        crate::records::long_pdu(112),
         0,
         &[0],
         &[0],
@@ -204,7 +233,7 @@ fn order() {
     answer_in(
         b"PDU of 1493, short buffer: ",
         h,
-        cases::long_pdu(112),
+        crate::records::long_pdu(112),
         0,
         &[0],
         &[0],
@@ -214,22 +243,26 @@ fn order() {
 
 // A PDU whose datSet is absent or present and has this length.
 fn with_dat_set(presence: Presence, len: usize) -> SavPdu {
-    let mut a = cases::with_dat_set(presence);
+    let mut a = crate::records::with_dat_set(presence);
     a.dat_set_len = len;
-    cases::pdu(a, 1)
+    crate::records::pdu(a, 1)
 }
 
 fn with_sv_id(len: usize) -> SavPdu {
-    let mut a = cases::asdu();
+    let mut a = crate::records::asdu();
     a.msv_id_len = len;
-    cases::pdu(a, 1)
+    crate::records::pdu(a, 1)
 }
 
 // Limits of noASDU, svID, datSet and security.
 fn limits() {
-    let h = cases::header();
-    let one = cases::pdu(cases::asdu(), 1);
-    answer_one(b"noASDU 0: ", h, cases::pdu(cases::asdu(), 0));
+    let h = crate::records::header();
+    let one = crate::records::pdu(crate::records::asdu(), 1);
+    answer_one(
+        b"noASDU 0: ",
+        h,
+        crate::records::pdu(crate::records::asdu(), 0),
+    );
     answer_one(b"svID of 127: ", h, with_sv_id(127));
     answer_one(b"svID of 128: ", h, with_sv_id(128));
     answer_one(b"datSet of 0: ", h, with_dat_set(Presence::Present, 0));
@@ -240,22 +273,22 @@ fn limits() {
         h,
         with_dat_set(Presence::Absent, 200),
     );
-    answer_one(b"security of 64: ", h, cases::secured(one, 64));
-    answer_one(b"security of 65: ", h, cases::secured(one, 65));
-    let mut absent = cases::pdu(cases::asdu(), 1);
+    answer_one(b"security of 64: ", h, crate::records::secured(one, 64));
+    answer_one(b"security of 65: ", h, crate::records::secured(one, 65));
+    let mut absent = crate::records::pdu(crate::records::asdu(), 1);
     absent.security_len = 65;
     answer_one(b"security of 65, absent: ", h, absent);
 }
 
 // EtherType, TPID and quality words.
 fn words() {
-    let h = cases::header();
-    let one = cases::pdu(cases::asdu(), 1);
-    let mut goose = cases::header();
+    let h = crate::records::header();
+    let one = crate::records::pdu(crate::records::asdu(), 1);
+    let mut goose = crate::records::header();
     goose.ether_type = 0x88b8;
     answer_one(b"EtherType 88B8: ", goose, one);
-    answer_one(b"TPID 8100: ", cases::tagged(0x8100, 0x6005), one);
-    answer_one(b"TPID 88A8: ", cases::tagged(0x88a8, 0x6005), one);
+    answer_one(b"TPID 8100: ", crate::records::tagged(0x8100, 0x6005), one);
+    answer_one(b"TPID 88A8: ", crate::records::tagged(0x88a8, 0x6005), one);
     answer(b"quality word 8191: ", h, one, 1, &[1000], &[8191]);
     answer(b"quality word 8192: ", h, one, 1, &[1000], &[8192]);
     answer(
@@ -276,14 +309,29 @@ fn size(name: &[u8], header: EthernetHeader, pdu: SavPdu, channels: usize) {
 
 // Sizes of the same descriptions.
 fn sizes() {
-    let h = cases::header();
-    let one = cases::pdu(cases::asdu(), 1);
+    let h = crate::records::header();
+    let one = crate::records::pdu(crate::records::asdu(), 1);
     size(b"size: ", h, one, 1);
     size(b"size, 24 channels: ", h, one, 24);
     size(b"size, 25 channels: ", h, one, 25);
-    size(b"size, noASDU 9: ", h, cases::pdu(cases::asdu(), 9), 1);
-    size(b"size, PDU of 1492: ", h, cases::long_pdu(111), 0);
-    size(b"size, PDU of 1493: ", h, cases::long_pdu(112), 0);
-    size(b"size, TPID 8100: ", cases::tagged(0x8100, 0x6005), one, 1);
-    size(b"size, TPID 88A8: ", cases::tagged(0x88a8, 0x6005), one, 1);
+    size(
+        b"size, noASDU 9: ",
+        h,
+        crate::records::pdu(crate::records::asdu(), 9),
+        1,
+    );
+    size(b"size, PDU of 1492: ", h, crate::records::long_pdu(111), 0);
+    size(b"size, PDU of 1493: ", h, crate::records::long_pdu(112), 0);
+    size(
+        b"size, TPID 8100: ",
+        crate::records::tagged(0x8100, 0x6005),
+        one,
+        1,
+    );
+    size(
+        b"size, TPID 88A8: ",
+        crate::records::tagged(0x88a8, 0x6005),
+        one,
+        1,
+    );
 }

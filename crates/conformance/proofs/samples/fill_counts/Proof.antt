@@ -3,8 +3,8 @@ use mathlib.Core.Path.{_≡_}
 use borrow.Author.Needs.{needs}
 use Prim.Native.Nat.{_-_}
 use lib.ListN.{length}
-use Rattle.cases.proofs.samples.fill_counts.Statement.{statement}
-use Rattle.cases.proofs.samples.fill_counts.Tie as tie
+use Rattle.conformance.proofs.samples.fill_counts.Statement.{statement}
+use Rattle.conformance.proofs.samples.fill_counts.Tie as tie
 
 abbrev Inv-loop : tie.InvT-loop
 Inv-loop counts₀ word₀ i₀ counts word i = length counts ≡ length counts₀

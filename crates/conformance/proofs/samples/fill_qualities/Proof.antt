@@ -3,8 +3,8 @@ use mathlib.Core.Path.{_≡_}
 use borrow.Author.Needs.{needs}
 use Prim.Native.Nat.{_-_}
 use lib.ListN.{length}
-use Rattle.cases.proofs.samples.fill_qualities.Statement.{statement}
-use Rattle.cases.proofs.samples.fill_qualities.Tie as tie
+use Rattle.conformance.proofs.samples.fill_qualities.Statement.{statement}
+use Rattle.conformance.proofs.samples.fill_qualities.Tie as tie
 
 abbrev Inv-loop : tie.InvT-loop
 Inv-loop qualities₀ quality₀ i₀ qualities quality i = length qualities ≡ length qualities₀

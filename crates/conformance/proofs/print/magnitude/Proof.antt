@@ -12,8 +12,8 @@ use lib.Signed.{ltZ, mag, nonNeg}
 use mir.Syntax.{w32, w64}
 use mir.Val.{toZ, ofZ, SFits, Fits}
 use mir.ValLaws.{toZ-ofZ}
-use Rattle.cases.proofs.print.magnitude.Statement.{statement}
-use Rattle.cases.proofs.print.magnitude.Tie as tie
+use Rattle.conformance.proofs.print.magnitude.Statement.{statement}
+use Rattle.conformance.proofs.print.magnitude.Tie as tie
 
 -- -1 - z of a negative z
 minus : (z : ℤ) → ltZ z (pos 0) ≡ true → negsuc 0 -ℤ z ≡ pos (mag z)

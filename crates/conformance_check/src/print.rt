@@ -1,0 +1,1 @@
+../../conformance/src/print.rt
