@@ -5,9 +5,7 @@ use crate::print::hex;
 use crate::print::say;
 use ber_encode::Written;
 use rt_services::EthernetHeader;
-use rt_services::OptionalU16;
 use rt_services::Presence;
-use rt_services::SavAsdu;
 use rt_services::SavPdu;
 
 pub fn print() {
@@ -102,33 +100,6 @@ fn answer_one(name: &[u8], header: EthernetHeader, pdu: SavPdu) {
     answer(name, header, pdu, 1, &[1000], &[0]);
 }
 
-// ASDU k of eight: svID MU and the digit k, smpCnt 3,996 + k, every optional field.
-fn numbered(k: u8) -> SavAsdu {
-    let mut a = crate::records::full_asdu();
-    a.msv_id[0] = b'M';
-    a.msv_id[1] = b'U';
-    a.msv_id[2] = 48 + k % 10;
-    a.msv_id_len = 3;
-    a.smp_cnt = 3996 + k as u16;
-    a
-}
-
-fn eight() -> SavPdu {
-    let asdus = [
-        numbered(0),
-        numbered(1),
-        numbered(2),
-        numbered(3),
-        numbered(4),
-        numbered(5),
-        numbered(6),
-        numbered(7),
-    ];
-    let mut p = crate::records::secured(crate::records::pdu_of(asdus, 8), 16);
-    p.sim = true;
-    p
-}
-
 // Document 01's frame; and the tagged frame of eight ASDUs of eight channels with every optional
 // field of oracle/recorded.txt, with its size.
 fn frames() {
@@ -147,13 +118,17 @@ fn frames() {
     octets(
         b"eight ASDUs of eight channels: ",
         crate::records::tagged(0x8100, 0x6005),
-        eight(),
+        crate::records::numbered(8),
         8,
         &counts,
         &qualities,
     );
     say(b"their size: ");
-    tell(encode_smv::smv_size(crate::records::tagged(0x8100, 0x6005), eight(), 8));
+    tell(encode_smv::smv_size(
+        crate::records::tagged(0x8100, 0x6005),
+        crate::records::numbered(8),
+        8,
+    ));
     say(b"\n");
 }
 
@@ -179,30 +154,25 @@ fn numbers() {
     smp_cnt(b"smpCnt 65535: ", 65535);
 }
 
-// A PDU of 1,381 octets and a datSet: six ASDUs without channels, svID of 127 octets, and datSet
-// of 100 in all but the last.
-fn long_pdu(len: usize) -> SavPdu {
-    let mut a = crate::records::with_optional(
-        crate::records::asdu(),
-        Presence::Present,
-        Presence::Absent,
-        OptionalU16::Absent,
-        OptionalU16::Absent,
-        Presence::Absent,
-    );
-    a.msv_id_len = 127;
-    a.dat_set_len = 100;
-    let mut last = a;
-    last.dat_set_len = len;
-    let asdus = [a, a, a, a, a, last, a, a];
-    crate::records::pdu_of(asdus, 6)
-}
-
 // The longest PDU, and one octet more.
 fn lengths() {
     let h = crate::records::header();
-    answer(b"PDU of 1492: ", h, long_pdu(111), 0, &[0], &[0]);
-    answer(b"PDU of 1493: ", h, long_pdu(112), 0, &[0], &[0]);
+    answer(
+        b"PDU of 1492: ",
+        h,
+        crate::records::long_pdu(111),
+        0,
+        &[0],
+        &[0],
+    );
+    answer(
+        b"PDU of 1493: ",
+        h,
+        crate::records::long_pdu(112),
+        0,
+        &[0],
+        &[0],
+    );
 }
 
 // Writes document 01's frame.
@@ -254,7 +224,7 @@ fn order() {
     answer(
         b"PDU of 1493, EtherType 88B8: ",
         goose,
-        long_pdu(112),
+        crate::records::long_pdu(112),
         0,
         &[0],
         &[0],
@@ -263,7 +233,7 @@ fn order() {
     answer_in(
         b"PDU of 1493, short buffer: ",
         h,
-        long_pdu(112),
+        crate::records::long_pdu(112),
         0,
         &[0],
         &[0],
@@ -273,14 +243,7 @@ fn order() {
 
 // A PDU whose datSet is absent or present and has this length.
 fn with_dat_set(presence: Presence, len: usize) -> SavPdu {
-    let mut a = crate::records::with_optional(
-        crate::records::asdu(),
-        presence,
-        Presence::Absent,
-        OptionalU16::Absent,
-        OptionalU16::Absent,
-        Presence::Absent,
-    );
+    let mut a = crate::records::with_dat_set(presence);
     a.dat_set_len = len;
     crate::records::pdu(a, 1)
 }
@@ -357,8 +320,8 @@ fn sizes() {
         crate::records::pdu(crate::records::asdu(), 9),
         1,
     );
-    size(b"size, PDU of 1492: ", h, long_pdu(111), 0);
-    size(b"size, PDU of 1493: ", h, long_pdu(112), 0);
+    size(b"size, PDU of 1492: ", h, crate::records::long_pdu(111), 0);
+    size(b"size, PDU of 1493: ", h, crate::records::long_pdu(112), 0);
     size(
         b"size, TPID 8100: ",
         crate::records::tagged(0x8100, 0x6005),

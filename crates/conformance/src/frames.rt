@@ -23,17 +23,6 @@ fn bare(name: &[u8], a: SavAsdu) {
     );
 }
 
-fn dat_set() -> SavAsdu {
-    crate::records::with_optional(
-        crate::records::asdu(),
-        Presence::Present,
-        Presence::Absent,
-        OptionalU16::Absent,
-        OptionalU16::Absent,
-        Presence::Absent,
-    )
-}
-
 fn refr_tm() -> SavAsdu {
     crate::records::with_optional(
         crate::records::asdu(),
@@ -67,19 +56,8 @@ fn gm_identity() -> SavAsdu {
     )
 }
 
-// svID and datSet of these lengths; a datSet is there where it has octets.
-pub fn texts(sv_id: usize, data_set: usize) -> SavAsdu {
-    let mut a = crate::records::asdu();
-    if 0 < data_set {
-        a = dat_set();
-    }
-    a.msv_id_len = sv_id;
-    a.dat_set_len = data_set;
-    a
-}
-
 fn empty_dat_set() -> SavAsdu {
-    let mut a = dat_set();
+    let mut a = crate::records::with_dat_set(Presence::Present);
     a.dat_set_len = 0;
     a
 }
@@ -95,7 +73,11 @@ pub fn print() {
     one(b"with simulation mark", h, simulated);
     one(b"with security", h, crate::records::secured(p, 16));
     one(b"with empty security", h, crate::records::secured(p, 0));
-    one(b"with datSet", h, crate::records::pdu(dat_set(), 1));
+    one(
+        b"with datSet",
+        h,
+        crate::records::pdu(crate::records::with_dat_set(Presence::Present), 1),
+    );
     one(
         b"with empty datSet",
         h,
@@ -107,7 +89,11 @@ pub fn print() {
     let modulus = rates(OptionalU16::Absent, OptionalU16::Present(1));
     one(b"with smpMod", h, crate::records::pdu(modulus, 1));
     one(b"with gmIdentity", h, crate::records::pdu(gm_identity(), 1));
-    one(b"with empty svID", h, crate::records::pdu(texts(0, 0), 1));
+    one(
+        b"with empty svID",
+        h,
+        crate::records::pdu(crate::records::texts(0, 0), 1),
+    );
 }
 
 // smpCnt, smpRate and smpMod at one number, confRev and smpSynch at others.
@@ -134,53 +120,27 @@ pub fn print_numbers() {
     numbers(b"confRev 4294967295", 1, 4294967295, 1);
 }
 
-// ASDU k of eight: svID MU and the digit k, smpCnt 3,996 + k, every optional field.
-fn numbered(k: u8) -> SavAsdu {
-    let mut a = crate::records::full_asdu();
-    a.msv_id[0] = b'M';
-    a.msv_id[1] = b'U';
-    a.msv_id[2] = 48 + k % 10;
-    a.msv_id_len = 3;
-    a.smp_cnt = 3996 + k as u16;
-    a
-}
-
-// n of eight ASDUs.
-fn several(n: u16) -> SavPdu {
-    let asdus = [
-        numbered(0),
-        numbered(1),
-        numbered(2),
-        numbered(3),
-        numbered(4),
-        numbered(5),
-        numbered(6),
-        numbered(7),
-    ];
-    let mut p = crate::records::secured(crate::records::pdu_of(asdus, n), 16);
-    p.sim = true;
-    p
-}
-
-// A PDU of 1,381 octets and a datSet: six ASDUs without channels, svID of 127 octets, and datSet
-// of 100 in all but the last.
-pub fn long_pdu(len: usize) -> SavPdu {
-    let a = texts(127, 100);
-    let asdus = [a, a, a, a, a, texts(127, len), a, a];
-    crate::records::pdu_of(asdus, 6)
-}
-
 // Lengths at the boundaries of their forms, and the longest texts, security and PDU.
 pub fn print_lengths() {
-    bare(b"ASDU of 127 octets", texts(114, 0));
-    bare(b"ASDU of 128 octets", texts(115, 0));
-    bare(b"ASDU of 255 octets", texts(127, 113));
-    bare(b"ASDU of 256 octets", texts(127, 114));
-    bare(b"svID and datSet of 127 octets", texts(127, 127));
+    bare(b"ASDU of 127 octets", crate::records::texts(114, 0));
+    bare(b"ASDU of 128 octets", crate::records::texts(115, 0));
+    bare(b"ASDU of 255 octets", crate::records::texts(127, 113));
+    bare(b"ASDU of 256 octets", crate::records::texts(127, 114));
+    bare(
+        b"svID and datSet of 127 octets",
+        crate::records::texts(127, 127),
+    );
     let h = crate::records::header();
     let p = crate::records::pdu(crate::records::asdu(), 1);
     one(b"security of 64 octets", h, crate::records::secured(p, 64));
-    frame(b"PDU of 1492 octets", h, long_pdu(111), 0, &[0], &[0]);
+    frame(
+        b"PDU of 1492 octets",
+        h,
+        crate::records::long_pdu(111),
+        0,
+        &[0],
+        &[0],
+    );
 }
 
 // Counts and quality words that differ from channel to channel.
@@ -204,16 +164,21 @@ pub fn print_sizes() {
     frame(
         b"two ASDUs of two channels",
         h,
-        several(2),
+        crate::records::numbered(2),
         2,
         &counts,
         &[8191, 1, 4096, 0],
     );
-    filled(b"eight ASDUs of no channel", h, several(8), 0);
+    filled(
+        b"eight ASDUs of no channel",
+        h,
+        crate::records::numbered(8),
+        0,
+    );
     filled(
         b"eight ASDUs of eight channels",
         crate::records::tagged(0x8100, 0x6005),
-        several(8),
+        crate::records::numbered(8),
         8,
     );
 }

@@ -87,6 +87,29 @@ pub fn with_optional(
     }
 }
 
+// The ASDU with datSet absent or present, and no other optional field.
+pub fn with_dat_set(dat_set: Presence) -> SavAsdu {
+    with_optional(
+        asdu(),
+        dat_set,
+        Presence::Absent,
+        OptionalU16::Absent,
+        OptionalU16::Absent,
+        Presence::Absent,
+    )
+}
+
+// The ASDU with svID and datSet of these lengths; a datSet is there where it has octets.
+pub fn texts(sv_id: usize, dat_set: usize) -> SavAsdu {
+    let mut a = asdu();
+    if 0 < dat_set {
+        a = with_dat_set(Presence::Present);
+    }
+    a.msv_id_len = sv_id;
+    a.dat_set_len = dat_set;
+    a
+}
+
 // An ASDU with every optional field.
 pub fn full_asdu() -> SavAsdu {
     with_optional(
@@ -129,4 +152,40 @@ pub fn secured(p: SavPdu, len: usize) -> SavPdu {
         sim: p.sim,
         security: Presence::Present,
     }
+}
+
+// ASDU k of eight: svID MU and the digit k, smpCnt 3,996 + k, every optional field.
+fn numbered_asdu(k: u8) -> SavAsdu {
+    let mut a = full_asdu();
+    a.msv_id[0] = b'M';
+    a.msv_id[1] = b'U';
+    a.msv_id[2] = 48 + k % 10;
+    a.msv_id_len = 3;
+    a.smp_cnt = 3996 + k as u16;
+    a
+}
+
+// A PDU of n of eight ASDUs with every optional field, with security and the simulation mark.
+pub fn numbered(n: u16) -> SavPdu {
+    let asdus = [
+        numbered_asdu(0),
+        numbered_asdu(1),
+        numbered_asdu(2),
+        numbered_asdu(3),
+        numbered_asdu(4),
+        numbered_asdu(5),
+        numbered_asdu(6),
+        numbered_asdu(7),
+    ];
+    let mut p = secured(pdu_of(asdus, n), 16);
+    p.sim = true;
+    p
+}
+
+// A PDU of 1,381 octets and the last ASDU's datSet: six ASDUs without channels, svID of 127 octets,
+// and datSet of 100 in all but the last.
+pub fn long_pdu(len: usize) -> SavPdu {
+    let a = texts(127, 100);
+    let asdus = [a, a, a, a, a, texts(127, len), a, a];
+    pdu_of(asdus, 6)
 }

@@ -1,8 +1,6 @@
 // Descriptions that the writer refuses.
 use crate::block::frame;
-use crate::frames::long_pdu;
 use crate::frames::one;
-use crate::frames::texts;
 
 pub fn print() {
     let h = crate::records::header();
@@ -27,12 +25,12 @@ pub fn print() {
     one(
         b"svID of 128 octets",
         h,
-        crate::records::pdu(texts(128, 0), 1),
+        crate::records::pdu(crate::records::texts(128, 0), 1),
     );
     one(
         b"datSet of 128 octets",
         h,
-        crate::records::pdu(texts(1, 128), 1),
+        crate::records::pdu(crate::records::texts(1, 128), 1),
     );
     one(b"security of 65 octets", h, crate::records::secured(p, 65));
     let mut goose = crate::records::header();
@@ -40,5 +38,12 @@ pub fn print() {
     one(b"EtherType 88B8", goose, p);
     one(b"TPID 88A8", crate::records::tagged(0x88a8, 0x6005), p);
     frame(b"quality word 8192", h, p, 1, &[1000], &[8192]);
-    frame(b"PDU of 1493 octets", h, long_pdu(112), 0, &[0], &[0]);
+    frame(
+        b"PDU of 1493 octets",
+        h,
+        crate::records::long_pdu(112),
+        0,
+        &[0],
+        &[0],
+    );
 }

@@ -100,3 +100,34 @@ pub fn octets_of(word: &[u8], out: &mut [u8]) -> usize {
     }
     pairs
 }
+
+// A checksum with one more octet.
+pub fn with_octet(sum: usize, octet: u8) -> usize {
+    if sum < 1099511627689 {
+        return (sum * 257 + octet as usize + 1) % 1099511627689;
+    }
+    0
+}
+
+// The checksum of n octets of s.
+pub fn checksum(s: &[u8], n: usize) -> usize {
+    let mut sum = 1;
+    let mut i = 0;
+    while i < n {
+        sum = with_octet(sum, octet(s, i));
+        i += 1;
+    }
+    sum
+}
+
+// The checksum of the octets that a word stands for.
+pub fn checksum_of(word: &[u8]) -> usize {
+    let pairs = word.len() / 2;
+    let mut sum = 1;
+    let mut i = 0;
+    while i < pairs {
+        sum = with_octet(sum, pair(word, i));
+        i += 1;
+    }
+    sum
+}

@@ -1,4 +1,5 @@
 // What the lines of a block say, as numbers.
+use crate::line::checksum_of;
 use crate::line::number;
 use crate::line::octet;
 use crate::line::octets_of;
@@ -41,7 +42,26 @@ pub const ORDINARY: usize = 13;
 
 pub const STRICT: usize = 15;
 
-pub const NUMBERS: usize = 17;
+// Length; 65,536 where the block doesn't say.
+pub const LENGTH: usize = 17;
+
+// 1 where the simulation mark is on.
+pub const SIMULATION: usize = 18;
+
+// Checksums of TCI, where there is one, of addresses, EtherType, APPID and security.
+pub const TCI: usize = 19;
+
+pub const DESTINATION: usize = 20;
+
+pub const SOURCE: usize = 21;
+
+pub const ETHER_TYPE: usize = 22;
+
+pub const APPID: usize = 23;
+
+pub const SECURITY: usize = 24;
+
+pub const NUMBERS: usize = 25;
 
 // Places among the values: nine fields for each of eight ASDUs, then count and quality word of each
 // sample.
@@ -93,6 +113,7 @@ fn start_block(kind: usize, numbers: &mut [usize]) {
     set(numbers, ORDINARY + 1, 0);
     set(numbers, STRICT, 0);
     set(numbers, STRICT + 1, 0);
+    set(numbers, LENGTH, 65536);
 }
 
 // The number after a word.
@@ -138,12 +159,65 @@ fn optional_number(text: &[u8]) -> usize {
     plus(number(text), 1)
 }
 
-// One more than the number of octets, or 0 where the field is absent.
+// The checksum of octets, or 0 where the field is absent.
 fn optional_octets(text: &[u8]) -> usize {
     if same(text, b"absent") {
         return 0;
     }
-    plus(text.len() / 2, 1)
+    checksum_of(text)
+}
+
+// The checksum of the TCI after a TPID, or 0 where VLAN is absent.
+fn tci_of(text: &[u8]) -> usize {
+    if same(text, b"absent") {
+        return 0;
+    }
+    checksum_of(rest(text))
+}
+
+fn simulation_of(text: &[u8]) -> usize {
+    if same(text, b"on") {
+        return 1;
+    }
+    0
+}
+
+// The place of the header's or the PDU's octets that a word names, or none.
+fn octets_place(w: &[u8]) -> usize {
+    if same(w, b"destination") {
+        return DESTINATION;
+    }
+    if same(w, b"source") {
+        return SOURCE;
+    }
+    if same(w, b"ethertype") {
+        return ETHER_TYPE;
+    }
+    if same(w, b"appid") {
+        return APPID;
+    }
+    if same(w, b"security") {
+        return SECURITY;
+    }
+    NUMBERS
+}
+
+// Lines of header and PDU.
+fn take_header(line: &[u8], numbers: &mut [usize]) {
+    let w = word(line);
+    let text = rest(line);
+    set(numbers, octets_place(w), optional_octets(text));
+    if same(w, b"vlan") {
+        set(numbers, TCI, tci_of(text));
+        return;
+    }
+    if same(w, b"simulation") {
+        set(numbers, SIMULATION, simulation_of(text));
+        return;
+    }
+    if same(w, b"length") {
+        set(numbers, LENGTH, number(text));
+    }
 }
 
 // The field of octets that a word names, or none.
@@ -214,7 +288,7 @@ fn take_start(line: &[u8], numbers: &mut [usize]) {
     }
 }
 
-// The other lines outside of ASDUs.
+// Sizes, octets and answers.
 fn take_other(line: &[u8], numbers: &mut [usize], octets: &mut [u8]) {
     let w = word(line);
     if same(w, b"channels") {
@@ -238,10 +312,16 @@ fn take_other(line: &[u8], numbers: &mut [usize], octets: &mut [u8]) {
     }
 }
 
-// Takes a line of a block.
-pub fn take_line(line: &[u8], numbers: &mut [usize], values: &mut [usize], octets: &mut [u8]) {
+// Lines outside of ASDUs.
+fn take_outside(line: &[u8], numbers: &mut [usize], octets: &mut [u8]) {
     take_start(line, numbers);
     take_other(line, numbers, octets);
+    take_header(line, numbers);
+}
+
+// Takes a line of a block.
+pub fn take_line(line: &[u8], numbers: &mut [usize], values: &mut [usize], octets: &mut [u8]) {
+    take_outside(line, numbers, octets);
     let w = word(line);
     let r = rest(line);
     take_field(octets_field(w), optional_octets(r), numbers, values);

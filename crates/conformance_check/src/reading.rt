@@ -1,4 +1,6 @@
 // Reads the octets of a block, and holds what is read against what the block says.
+use crate::line::checksum;
+use crate::line::with_octet;
 use crate::list;
 use crate::list::field_place;
 use crate::list::get;
@@ -6,18 +8,63 @@ use crate::list::sample_place;
 use crate::octets::first;
 use crate::octets::plus;
 use decode_smv::SavRead;
+use rt_services::EthernetHeader;
 use rt_services::OptionalU16;
 use rt_services::Presence;
 use rt_services::SavAsdu;
 use rt_services::SavDataSetConfig;
 use rt_services::SavPdu;
+use rt_services::Vlan;
 
-// One more than the number of octets, or 0 where the field is absent.
-fn octets_of(presence: Presence, len: usize) -> usize {
+// The checksum of octets, or 0 where the field is absent.
+fn octets_of(presence: Presence, s: &[u8], len: usize) -> usize {
     match presence {
         Presence::Absent => 0,
-        Presence::Present => plus(len, 1),
+        Presence::Present => checksum(s, len),
     }
+}
+
+// The checksum of a number's two octets.
+fn word_of(n: u16) -> usize {
+    with_octet(with_octet(1, (n / 256) as u8), (n % 256) as u8)
+}
+
+fn tci_of(vlan: Vlan) -> usize {
+    match vlan {
+        Vlan::Untagged => 0,
+        Vlan::Tagged(_, tci) => word_of(tci),
+    }
+}
+
+// Whether the block says this Length, if it says any.
+fn length_is(n: usize, numbers: &[usize]) -> bool {
+    let said = get(numbers, list::LENGTH);
+    said == n || said == 65536
+}
+
+// Whether the header is the one that the block says.
+fn header_is(h: EthernetHeader, numbers: &[usize]) -> bool {
+    let destination = h.dst_addr;
+    let source = h.src_addr;
+    let vlan = h.vlan;
+    get(numbers, list::DESTINATION) == checksum(&destination, 6)
+        && get(numbers, list::SOURCE) == checksum(&source, 6)
+        && get(numbers, list::TCI) == tci_of(vlan)
+        && get(numbers, list::ETHER_TYPE) == word_of(h.ether_type)
+        && get(numbers, list::APPID) == word_of(h.appid)
+        && length_is(h.length as usize, numbers)
+}
+
+// Whether simulation mark and security are those that the block says.
+fn marks_are(
+    sim: bool,
+    security: Presence,
+    octets: [u8; SavPdu::MAX_SECURITY],
+    len: usize,
+    numbers: &[usize],
+) -> bool {
+    get(numbers, list::SIMULATION) == sim as usize
+        && get(numbers, list::SECURITY) == octets_of(security, &octets, len)
 }
 
 // One more than a number, or 0 where the field is absent.
@@ -33,15 +80,23 @@ fn says(values: &[usize], k: usize, field: usize, v: usize) -> bool {
     get(values, field_place(k, field)) == v
 }
 
-// Whether the octets of ASDU k have the lengths that the block says.
-fn octets_are(a: SavAsdu, k: usize, values: &[usize]) -> bool {
+// Whether svID and datSet of ASDU k are those that the block says.
+fn texts_are(a: SavAsdu, k: usize, values: &[usize]) -> bool {
+    let id = a.msv_id;
     let dat_set = a.dat_set;
+    let octets = a.dat_set_octets;
+    says(values, k, 0, checksum(&id, a.msv_id_len))
+        && says(values, k, 1, octets_of(dat_set, &octets, a.dat_set_len))
+}
+
+// Whether refrTm and gmIdentity of ASDU k are those that the block says.
+fn octets_are(a: SavAsdu, k: usize, values: &[usize]) -> bool {
     let refr_tm = a.refr_tm;
+    let time = a.refr_tm_octets;
     let gm_identity = a.gm_identity;
-    says(values, k, 0, plus(a.msv_id_len, 1))
-        && says(values, k, 1, octets_of(dat_set, a.dat_set_len))
-        && says(values, k, 4, octets_of(refr_tm, 8))
-        && says(values, k, 8, octets_of(gm_identity, 8))
+    let identity = a.gm_identity_octets;
+    says(values, k, 4, octets_of(refr_tm, &time, 8))
+        && says(values, k, 8, octets_of(gm_identity, &identity, 8))
 }
 
 // Whether the numbers of ASDU k are those that the block says.
@@ -60,6 +115,9 @@ fn asdus_are(asdus: [SavAsdu; SavPdu::MAX_ASDUS], n: usize, values: &[usize]) ->
     while k < SavPdu::MAX_ASDUS {
         let a = asdus[k];
         if k < n {
+            if !texts_are(a, k, values) {
+                return false;
+            }
             if !octets_are(a, k, values) {
                 return false;
             }
@@ -121,7 +179,12 @@ fn is_found(
 ) -> bool {
     let n = got.no_asdu as usize;
     let asdus = got.sav_asdu;
-    n == get(numbers, list::NO_ASDU)
+    let header = got.header;
+    let security = got.security;
+    let octets = got.security_octets;
+    header_is(header, numbers)
+        && marks_are(got.sim, security, octets, got.security_len, numbers)
+        && n == get(numbers, list::NO_ASDU)
         && n == get(numbers, list::ASDUS)
         && asdus_are(asdus, n, values)
         && samples_are(counts, qualities, get(numbers, list::SAMPLES), values)

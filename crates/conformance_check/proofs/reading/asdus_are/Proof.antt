@@ -19,17 +19,23 @@ mul-a c = search needs
 array-copy-out-a : tie.Need-array-copy-out-a Inv-loop μ-loop
 array-copy-out-a c = search needs
 
-octets-are-requires : tie.Need-octets-are-requires Inv-loop μ-loop
-octets-are-requires c κs = search needs
+texts-are-requires : tie.Need-texts-are-requires Inv-loop μ-loop
+texts-are-requires c κs = search needs
 
 returns : tie.Need-returns Inv-loop μ-loop
 returns c = search needs
 
-numbers-are-requires : tie.Need-numbers-are-requires Inv-loop μ-loop
-numbers-are-requires c κs = search needs
+octets-are-requires : tie.Need-octets-are-requires Inv-loop μ-loop
+octets-are-requires c κs = search needs
 
 returns-2 : tie.Need-returns-2 Inv-loop μ-loop
 returns-2 c = search needs
+
+numbers-are-requires : tie.Need-numbers-are-requires Inv-loop μ-loop
+numbers-are-requires c κs = search needs
+
+returns-3 : tie.Need-returns-3 Inv-loop μ-loop
+returns-3 c = search needs
 
 add-k : tie.Need-add-k Inv-loop μ-loop
 add-k c = search needs
@@ -40,8 +46,8 @@ loop-less c = search needs
 loop-again : tie.Need-loop-again Inv-loop μ-loop
 loop-again c = search needs
 
-returns-3 : tie.Need-returns-3 Inv-loop μ-loop
-returns-3 c = search needs
+returns-4 : tie.Need-returns-4 Inv-loop μ-loop
+returns-4 c = search needs
 
 pub asdus-are-spec : {M : Type 1} → statement M
 asdus-are-spec =
@@ -52,11 +58,13 @@ asdus-are-spec =
     loop-holds
     mul-a
     array-copy-out-a
-    octets-are-requires
+    texts-are-requires
     returns
-    numbers-are-requires
+    octets-are-requires
     returns-2
+    numbers-are-requires
+    returns-3
     add-k
     loop-less
     loop-again
-    returns-3)
+    returns-4)

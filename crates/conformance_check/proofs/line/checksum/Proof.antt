@@ -1,0 +1,46 @@
+-- Each turn takes one octet. Assumes nothing.
+use borrow.Author.Needs.{needs}
+use Prim.Native.Nat.{_-_, _≤_}
+use Rattle.conformance_check.proofs.line.checksum.Statement.{statement}
+use Rattle.conformance_check.proofs.line.checksum.Tie as tie
+
+abbrev Inv-loop : tie.InvT-loop
+Inv-loop s n sum₀ i₀ sum i = i ≤ n
+
+abbrev μ-loop : tie.MeasureT-loop
+μ-loop s n sum₀ i₀ sum i = n - i
+
+loop-holds : tie.Need-loop-holds Inv-loop μ-loop
+loop-holds c = search needs
+
+octet-requires : tie.Need-octet-requires Inv-loop μ-loop
+octet-requires c κs = search needs
+
+with-octet-requires : tie.Need-with-octet-requires Inv-loop μ-loop
+with-octet-requires c κs = search needs
+
+add-i : tie.Need-add-i Inv-loop μ-loop
+add-i c = search needs
+
+loop-less : tie.Need-loop-less Inv-loop μ-loop
+loop-less c = search needs
+
+loop-again : tie.Need-loop-again Inv-loop μ-loop
+loop-again c = search needs
+
+returns : tie.Need-returns Inv-loop μ-loop
+returns c = search needs
+
+pub checksum-spec : {M : Type 1} → statement M
+checksum-spec =
+    tie.close
+    (tie.spec
+    Inv-loop
+    μ-loop
+    loop-holds
+    octet-requires
+    with-octet-requires
+    add-i
+    loop-less
+    loop-again
+    returns)
