@@ -1,7 +1,7 @@
 //! The cases of document 01's "Octets to hold against", put to the original.
 
 use crate::answer::{answer, ACCEPTED, REFUSED};
-use crate::hex;
+use crate::hex::hex;
 use crate::layout::{asked, described, Asdu, Header, Pdu, Sample};
 use std::io;
 

@@ -7,7 +7,7 @@ use crate::layout::{asked, bits, described, Asdu, Header, Pdu, Sample};
 pub struct Random(pub u64);
 
 impl Random {
-    pub fn next(&mut self) -> u64 {
+    pub fn draw(&mut self) -> u64 {
         self.0 = self.0.wrapping_add(0x9e37_79b9_7f4a_7c15);
         let mut z = self.0;
         z = (z ^ (z >> 30)).wrapping_mul(0xbf58_476d_1ce4_e5b9);
@@ -17,7 +17,7 @@ impl Random {
 
     /// From 0 to `end` - 1.
     pub fn below(&mut self, end: usize) -> usize {
-        (self.next() % end as u64) as usize
+        (self.draw() % end as u64) as usize
     }
 
     /// From `first` to `last`.
@@ -34,11 +34,11 @@ impl Random {
     }
 
     fn octets(&mut self, length: usize) -> Vec<u8> {
-        (0..length).map(|_| self.next() as u8).collect()
+        (0..length).map(|_| self.draw() as u8).collect()
     }
 
     fn fixed<const N: usize>(&mut self) -> [u8; N] {
-        std::array::from_fn(|_| self.next() as u8)
+        std::array::from_fn(|_| self.draw() as u8)
     }
 
     /// A number with a random number of bits, up to `bits`.
@@ -47,7 +47,7 @@ impl Random {
         if count == 0 {
             0
         } else {
-            self.next() >> (64 - count)
+            self.draw() >> (64 - count)
         }
     }
 
@@ -184,24 +184,24 @@ fn number32(random: &mut Random) -> u32 {
 /// A quality word; `wide` percent have any of the 32 bits.
 fn word(random: &mut Random, wide: usize) -> u32 {
     if random.percent(wide) {
-        random.next() as u32
+        random.draw() as u32
     } else {
-        random.pick(&[0, 0, 1, 0x800, 0x1fff, 0x555]) & random.next() as u32
+        random.pick(&[0, 0, 1, 0x800, 0x1fff, 0x555]) & random.draw() as u32
     }
 }
 
 fn count(random: &mut Random) -> i32 {
     match random.below(4) {
         0 => random.pick(&COUNTS),
-        1 => random.next() as i32,
-        _ => (random.next() as i32) >> random.below(32),
+        1 => random.draw() as i32,
+        _ => (random.draw() as i32) >> random.below(32),
     }
 }
 
 fn scale(random: &mut Random) -> f32 {
     match random.below(20) {
         0 => random.pick(&SCALES),
-        1 => f32::from_bits(random.next() as u32),
+        1 => f32::from_bits(random.draw() as u32),
         2 => random.among(1, 1000) as f32 / 1000.0,
         _ => random.pick(&SCALES[..7]),
     }
@@ -398,7 +398,7 @@ fn alter(class: &str, random: &mut Random, element: &mut Element) {
         ("other tags", _) if random.percent(15) => {
             element.tag = match random.below(2) {
                 0 => random.among(0x80, 0x8a) as u8,
-                _ => random.next() as u8,
+                _ => random.draw() as u8,
             };
         }
         _ => (),
@@ -660,7 +660,7 @@ fn write_length(random: &mut Random) -> Vec<u8> {
 fn write_integer(random: &mut Random) -> Vec<u8> {
     let width = random.pick(&[1u8, 2, 4]);
     let value = u64::from(number32(random)) & ((1u64 << (8 * width)) - 1);
-    let mut out = vec![random.next() as u8, width];
+    let mut out = vec![random.draw() as u8, width];
     out.extend((value as u32).to_be_bytes());
     out
 }
@@ -718,7 +718,7 @@ fn time_fields(random: &mut Random) -> Vec<u8> {
     for _ in 0..3 {
         out.push(random.below(2) as u8);
     }
-    let accuracies = [0, 24, 25, 26, 30, 31, 32, 63, 255, random.next() as u8];
+    let accuracies = [0, 24, 25, 26, 30, 31, 32, 63, 255, random.draw() as u8];
     out.push(random.pick(&accuracies));
     out
 }
@@ -726,7 +726,7 @@ fn time_fields(random: &mut Random) -> Vec<u8> {
 fn value_and_scale(random: &mut Random) -> Vec<u8> {
     let scale = scale(random);
     let value = match random.below(4) {
-        0 => f32::from_bits(random.next() as u32),
+        0 => f32::from_bits(random.draw() as u32),
         _ => value(random, scale),
     };
     [bits(value), scale.to_bits()].map(u32::to_be_bytes).concat()

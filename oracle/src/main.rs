@@ -1,18 +1,8 @@
 //! Answers requests with the original Rust, built unchanged. README.md says how to use it.
 
-mod answer;
-mod cases;
-mod frame;
-mod generate;
-mod layout;
-mod original;
-mod record;
-// The original's own file: not to be formatted from here.
-#[rustfmt::skip]
-#[allow(dead_code, unused_imports)]
-mod types;
-
-use generate::Random;
+use oracle::generate::Random;
+use oracle::hex::{from_hex, hex, put_hex};
+use oracle::{answer, cases, generate, record};
 use std::collections::BTreeMap;
 use std::io::{self, BufRead, BufWriter, Write};
 use std::process::ExitCode;
@@ -63,36 +53,6 @@ fn main() -> ExitCode {
 fn usage() -> ExitCode {
     eprintln!("{USAGE}");
     ExitCode::from(2)
-}
-
-/// Lower-case hexadecimal; `-` for none.
-fn put_hex(out: &mut Vec<u8>, octets: &[u8]) {
-    const DIGITS: &[u8; 16] = b"0123456789abcdef";
-    if octets.is_empty() {
-        out.push(b'-');
-    }
-    for octet in octets {
-        out.push(DIGITS[usize::from(octet >> 4)]);
-        out.push(DIGITS[usize::from(octet & 15)]);
-    }
-}
-
-pub fn hex(octets: &[u8]) -> String {
-    let mut out = vec![];
-    put_hex(&mut out, octets);
-    String::from_utf8_lossy(&out).into_owned()
-}
-
-fn from_hex(text: &str) -> Option<Vec<u8>> {
-    if text == "-" {
-        return Some(vec![]);
-    }
-    let digit = |letter: u8| (letter as char).to_digit(16).map(|value| value as u8);
-    let pair = |pair: &[u8]| match pair {
-        [high, low] => Some(digit(*high)? << 4 | digit(*low)?),
-        _ => None,
-    };
-    text.as_bytes().chunks(2).map(pair).collect()
 }
 
 fn put_line(line: &mut Vec<u8>, kind: u8, request: &[u8], answered: bool) {

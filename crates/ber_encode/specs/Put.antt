@@ -58,7 +58,7 @@ put-part d a at xs h =
     rw (none, append-nil, put-drop) (rw (← take-put d a (a + at) xs (omega arith)) (take-append-drop a (put d (a + at) xs)))
 
 -- a store below a write, or above it, is part of it
-set-put : (d : List ℕ) (j at : ℕ) (x : ℕ) (xs : List ℕ) → j < at → set (put d at xs) j x ≡ put (set d j x) at xs
+pub set-put : (d : List ℕ) (j at : ℕ) (x : ℕ) (xs : List ℕ) → j < at → set (put d at xs) j x ≡ put (set d j x) at xs
 unfolding put
 set-put d j at x [] h = refl
 set-put d j at x (y ∷ ys) h =

@@ -3,6 +3,9 @@ pub mod Octets
 pub mod Frame
 pub mod Read
 pub mod Answers
+pub mod Samples
+pub mod Flat
+pub mod FlatBack
 pub mod Back
 pub mod Trip
 pub mod Sound

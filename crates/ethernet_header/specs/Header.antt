@@ -12,7 +12,7 @@ use lib.Dec.{leb, eqb, lit<}
 use borrow.Author.Tests.{le-leb, lt-leb, le-ltb, lt-ltb, eq-eqb, ne-eqb, eqb-true, eqb-false}
 use Rattle.definition.specs.Limits.{endsTooSoon}
 use Rattle.definition.specs.Frame.{and}
-use Rattle.definition.specs.Read.{Out, got, refused, beAt, tagged, Header, headerAt, headerFrom, isSmvFrame, simulationOf}
+use Rattle.definition.specs.Read.{Out, got, refused, beAt, tagged, Header, blankHeader, headerAt, headerFrom, isSmvFrame, simulationOf}
 use Rattle.rt_services.specs.Describe.{headerRecord, tagOf, vlanOf}
 use Rattle.rt_services.specs.declared.Vlan.{Vlan}
 use Rattle.rt_services.specs.declared.Vlan.the-variants as vlan
@@ -21,10 +21,6 @@ use Rattle.ber_decode.specs.Cases.{Bytes}
 use Rattle.ethernet_header.specs.declared.HeaderRead.{HeaderRead}
 use Rattle.ethernet_header.specs.declared.HeaderEnd.{HeaderEnd}
 use Rattle.ethernet_header.specs.declared.HeaderEnd.the-variants.{Refused, Next}
-
--- a header that holds nothing
-unfoldable pub blankHeader : Header
-blankHeader = record { destination = replicate 6 0; source = replicate 6 0; vlan = none; etherType = 0; appid = 0; len = 0 }
 
 -- "A refusal carries a number and a place": all else is zero
 unfoldable pub noHeader : ℕ → ℕ → HeaderRead

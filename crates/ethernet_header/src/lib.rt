@@ -116,8 +116,10 @@ fn number16(s: &[u8], at: usize) -> u16
     ber_decode::be(s, at, 2) as u16
 }
 
+pub type Address = [u8; 6];
+
 // The address at a place.
-fn address(s: &[u8], at: usize) -> [u8; 6]
+pub fn address(s: &[u8], at: usize) -> Address
     requires { ⌜ at + 6 ≤ length (now s) ⌝ }
     ensures { λ r. ⌜ r ≡ take 6 (drop at (now (s .entry))) ⌝ }
 {

@@ -1,7 +1,8 @@
 -- no_header: by computation.
 use mathlib.Core.Path.{refl}
 use Rattle.rt_services.specs.Describe.{headerRecord}
-use Rattle.ethernet_header.specs.Header.{noHeader, blankHeader}
+use Rattle.definition.specs.Read.{blankHeader}
+use Rattle.ethernet_header.specs.Header.{noHeader}
 use Rattle.ethernet_header.proofs.no_header.Statement.{statement}
 use Rattle.ethernet_header.proofs.no_header.Tie as tie
 use Rattle.ethernet_header.proofs.no_header.Reads as reads

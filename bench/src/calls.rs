@@ -1,0 +1,206 @@
+//! The calls that are measured, each over the frames of a case again and again.
+
+use crate::case::{Case, Flat, FRAMES};
+use hopsickle::sys;
+use oracle::original::{decode_smv, encode_smv, ethernet_header};
+use oracle::types as theirs;
+use std::hint::black_box;
+
+/// So many calls.
+pub type Call<'a> = Box<dyn FnMut(usize) + 'a>;
+
+// ---- the original
+
+fn decode(case: &Case, i: usize) -> (theirs::EthernetHeader, theirs::SavPdu) {
+    let frame = black_box(&case.frames[i % FRAMES].frame[..]);
+    let mut header = theirs::EthernetHeader::default();
+    let start = ethernet_header::decode_ethernet_header(&mut header, frame);
+    let pdu = decode_smv::decode_smv(frame, start, black_box(&case.their_config));
+    (header, pdu.expect("a frame"))
+}
+
+pub fn original_reading(case: &Case) -> Call<'_> {
+    Box::new(|n| (0..n).for_each(|i| drop(black_box(decode(case, i)))))
+}
+
+pub fn original_strict(case: &Case) -> Call<'_> {
+    Box::new(|n| {
+        for i in 0..n {
+            let (header, pdu) = decode(case, i);
+            let again = encode_smv::encode_smv(&header, &pdu).expect("a description");
+            black_box((header, pdu, again));
+        }
+    })
+}
+
+pub fn original_writing(case: &Case) -> Call<'_> {
+    Box::new(|n| {
+        for i in 0..n {
+            let one = black_box(&case.frames[i % FRAMES]);
+            black_box(encode_smv::encode_smv(&one.their_header, &one.their_pdu).is_ok());
+        }
+    })
+}
+
+// ---- the flat functions, into arrays that are not cleared between calls
+
+fn read(call: sys::Read, case: &Case, i: usize, to: &mut Flat) {
+    let frame = black_box(&case.frames[i % FRAMES].frame[..]);
+    let mut place = 0;
+    // SAFETY: each pointer is that of a slice or array of as many elements as are named after it.
+    let number = unsafe {
+        call(
+            frame.as_ptr(),
+            frame.len(),
+            case.shape.channels,
+            to.numbers.as_mut_ptr(),
+            to.numbers.len(),
+            to.octets.as_mut_ptr(),
+            to.octets.len(),
+            to.counts.as_mut_ptr(),
+            to.counts.len(),
+            to.qualities.as_mut_ptr(),
+            to.qualities.len(),
+            &mut place,
+        )
+    };
+    assert_eq!(number, 0);
+    black_box(to);
+}
+
+pub fn flat_reading(case: &Case) -> Call<'_> {
+    let mut to = Flat::new();
+    Box::new(move |n| (0..n).for_each(|i| read(sys::hopsickle_read, case, i, &mut to)))
+}
+
+pub fn flat_strict(case: &Case) -> Call<'_> {
+    let mut to = Flat::new();
+    Box::new(move |n| (0..n).for_each(|i| read(sys::hopsickle_read_strict, case, i, &mut to)))
+}
+
+pub fn flat_reading_values(case: &Case) -> Call<'_> {
+    let mut to = Flat::new();
+    Box::new(move |n| {
+        for i in 0..n {
+            read(sys::hopsickle_read, case, i, &mut to);
+            let mut written = 0;
+            // SAFETY: as in `read`.
+            let number = unsafe {
+                sys::hopsickle_values(
+                    case.scales.as_ptr(),
+                    case.scales.len(),
+                    to.numbers[sys::NO_ASDU] as u16,
+                    to.counts.as_ptr(),
+                    to.counts.len(),
+                    to.values.as_mut_ptr(),
+                    to.values.len(),
+                    &mut written,
+                )
+            };
+            assert_eq!(number, 0);
+            black_box(&mut to);
+        }
+    })
+}
+
+pub fn flat_writing(case: &Case) -> Call<'_> {
+    let mut frame = [0; sys::MAX_FRAME];
+    Box::new(move |n| {
+        for i in 0..n {
+            let flat = black_box(&case.frames[i % FRAMES].flat);
+            let mut size = 0;
+            // SAFETY: as in `read`.
+            let number = unsafe {
+                sys::hopsickle_write(
+                    flat.numbers.as_ptr(),
+                    flat.numbers.len(),
+                    flat.octets.as_ptr(),
+                    flat.octets.len(),
+                    case.shape.channels,
+                    flat.counts.as_ptr(),
+                    flat.counts.len(),
+                    flat.qualities.as_ptr(),
+                    flat.qualities.len(),
+                    frame.as_mut_ptr(),
+                    frame.len(),
+                    &mut size,
+                )
+            };
+            assert_eq!(number, 0);
+            black_box((&mut frame, size));
+        }
+    })
+}
+
+pub fn flat_writing_values(case: &Case) -> Call<'_> {
+    let mut frame = [0; sys::MAX_FRAME];
+    Box::new(move |n| {
+        for i in 0..n {
+            let flat = black_box(&case.frames[i % FRAMES].flat);
+            let mut size = 0;
+            // SAFETY: as in `read`.
+            let number = unsafe {
+                sys::hopsickle_write_values(
+                    flat.numbers.as_ptr(),
+                    flat.numbers.len(),
+                    flat.octets.as_ptr(),
+                    flat.octets.len(),
+                    case.scales.as_ptr(),
+                    case.scales.len(),
+                    flat.values.as_ptr(),
+                    flat.values.len(),
+                    flat.qualities.as_ptr(),
+                    flat.qualities.len(),
+                    frame.as_mut_ptr(),
+                    frame.len(),
+                    &mut size,
+                )
+            };
+            assert_eq!(number, 0);
+            black_box((&mut frame, size));
+        }
+    })
+}
+
+// ---- the bindings
+
+pub fn rust_reading(case: &Case) -> Call<'_> {
+    Box::new(|n| {
+        for i in 0..n {
+            let frame = black_box(&case.frames[i % FRAMES].frame[..]);
+            let mut header = hopsickle::EthernetHeader::default();
+            let start = hopsickle::decode_ethernet_header(&mut header, frame);
+            let pdu = hopsickle::decode_smv(frame, start, black_box(&case.config));
+            black_box((header, pdu.expect("a frame")));
+        }
+    })
+}
+
+pub fn rust_strict(case: &Case) -> Call<'_> {
+    let mut read = hopsickle::Frame::default();
+    Box::new(move |n| {
+        for i in 0..n {
+            let frame = black_box(&case.frames[i % FRAMES].frame[..]);
+            read.read_strict(frame, black_box(&case.config)).expect("a frame");
+            black_box((read.header(), read.pdu()));
+        }
+    })
+}
+
+pub fn rust_writing(case: &Case) -> Call<'_> {
+    Box::new(|n| {
+        for i in 0..n {
+            let one = black_box(&case.frames[i % FRAMES]);
+            black_box(hopsickle::encode_counts(&one.header, &one.pdu, &one.counts).is_ok());
+        }
+    })
+}
+
+pub fn rust_writing_values(case: &Case) -> Call<'_> {
+    Box::new(|n| {
+        for i in 0..n {
+            let one = black_box(&case.frames[i % FRAMES]);
+            black_box(hopsickle::encode_smv(&one.header, &one.pdu).is_ok());
+        }
+    })
+}

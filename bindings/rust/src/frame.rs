@@ -1,0 +1,430 @@
+//! A frame in the arrays that cross to the library, between the octets and the records.
+
+use crate::sys::*;
+use crate::types::{EthernetHeader, Quality, Sample, SavAsdu, SavDataSetConfig, SavPdu};
+use crate::Refusal;
+use std::cell::RefCell;
+use std::ops::Range;
+
+// Room for one ASDU and one channel more than there can be, so that the library finds too many of
+// them (9, 8) and not too little room (7).
+const ASDUS: usize = MAX_ASDUS + 1;
+const CHANNELS: usize = MAX_CHANNELS + 1;
+const SAMPLES: usize = ASDUS * CHANNELS;
+const NUMBERS: usize = HEAD_NUMBERS + ASDUS * ASDU_NUMBERS;
+const OCTETS: usize = HEAD_OCTETS + ASDUS * ASDU_OCTETS;
+
+/// A frame that was read: the records of its header and PDU, and what these can't hold, the octets
+/// of its texts and the counts of its samples. One `Frame` serves for any number of readings.
+#[derive(Clone)]
+pub struct Frame {
+    channels: usize,
+    scales: [f32; CHANNELS],
+    numbers: [u32; NUMBERS],
+    octets: [u8; OCTETS],
+    counts: [i32; SAMPLES],
+    values: [f32; SAMPLES],
+    qualities: [u32; SAMPLES],
+}
+
+impl Default for Frame {
+    /// A frame without ASDUs.
+    fn default() -> Self {
+        Frame::EMPTY
+    }
+}
+
+impl Frame {
+    const EMPTY: Frame = Frame {
+        channels: 0,
+        scales: [0.0; CHANNELS],
+        numbers: [0; NUMBERS],
+        octets: [0; OCTETS],
+        counts: [0; SAMPLES],
+        values: [0.0; SAMPLES],
+        qualities: [0; SAMPLES],
+    };
+}
+
+/// A frame in the arrays, and one in octets.
+type Scratch = (Frame, [u8; MAX_FRAME]);
+
+thread_local! {
+    static SCRATCH: RefCell<Scratch> = const { RefCell::new((Frame::EMPTY, [0; MAX_FRAME])) };
+}
+
+/// Lends the thread's own arrays, with whatever the last call left in them: clearing them would take
+/// as long as reading a small frame.
+pub(crate) fn with_scratch<T>(work: impl FnOnce(&mut Scratch) -> T) -> T {
+    SCRATCH.with(|scratch| match scratch.try_borrow_mut() {
+        Ok(mut scratch) => work(&mut scratch),
+        Err(_) => work(&mut (Frame::EMPTY, [0; MAX_FRAME])),
+    })
+}
+
+// ---- reading
+
+impl Frame {
+    /// Reads a frame of this data set the ordinary way. A refusal leaves what was read before.
+    pub fn read(&mut self, frame: &[u8], config: &SavDataSetConfig) -> Result<(), Refusal> {
+        self.read_by(hopsickle_read, frame, config)
+    }
+
+    /// Reads a frame of this data set strictly: only what the writer writes is accepted.
+    pub fn read_strict(&mut self, frame: &[u8], config: &SavDataSetConfig) -> Result<(), Refusal> {
+        self.read_by(hopsickle_read_strict, frame, config)
+    }
+
+    fn read_by(
+        &mut self,
+        call: Read,
+        frame: &[u8],
+        data: &SavDataSetConfig,
+    ) -> Result<(), Refusal> {
+        let mut place = 0;
+        // SAFETY: every pointer is that of a slice or array of as many elements as are named after
+        // it, those to be written are borrowed exclusively, and `place` is a local.
+        let number = unsafe {
+            call(
+                frame.as_ptr(),
+                frame.len(),
+                data.config.len(),
+                self.numbers.as_mut_ptr(),
+                self.numbers.len(),
+                self.octets.as_mut_ptr(),
+                self.octets.len(),
+                self.counts.as_mut_ptr(),
+                self.counts.len(),
+                self.qualities.as_mut_ptr(),
+                self.qualities.len(),
+                &mut place,
+            )
+        };
+        Refusal::check(number, place)?;
+        self.scale(data)
+    }
+
+    /// Reads a PDU from a place on.
+    pub(crate) fn decode(
+        &mut self,
+        buffer: &[u8],
+        at: usize,
+        data: &SavDataSetConfig,
+    ) -> Result<(), Refusal> {
+        let mut place = 0;
+        // SAFETY: as in `read_by`.
+        let number = unsafe {
+            hopsickle_decode(
+                buffer.as_ptr(),
+                buffer.len(),
+                at,
+                data.config.len(),
+                self.numbers.as_mut_ptr(),
+                self.numbers.len(),
+                self.octets.as_mut_ptr(),
+                self.octets.len(),
+                self.counts.as_mut_ptr(),
+                self.counts.len(),
+                self.qualities.as_mut_ptr(),
+                self.qualities.len(),
+                &mut place,
+            )
+        };
+        Refusal::check(number, place)?;
+        self.scale(data)
+    }
+
+    /// The values of the counts that were read.
+    fn scale(&mut self, data: &SavDataSetConfig) -> Result<(), Refusal> {
+        self.channels = data.config.len();
+        for (scale, channel) in self.scales.iter_mut().zip(&data.config) {
+            *scale = channel.scale_factor;
+        }
+        let mut written = 0;
+        // SAFETY: as in `read_by`; what was read has at most 24 channels, and so many scale factors
+        // are there.
+        let number = unsafe {
+            hopsickle_values(
+                self.scales.as_ptr(),
+                self.channels,
+                self.no_asdu() as u16,
+                self.counts.as_ptr(),
+                self.counts.len(),
+                self.values.as_mut_ptr(),
+                self.values.len(),
+                &mut written,
+            )
+        };
+        Refusal::check(number, 0)
+    }
+}
+
+// ---- what was read
+
+impl Frame {
+    /// The number of ASDUs.
+    pub fn no_asdu(&self) -> usize {
+        self.numbers[NO_ASDU] as usize
+    }
+
+    /// The number of channels of each ASDU.
+    pub fn channels(&self) -> usize {
+        self.channels
+    }
+
+    /// The octets of svID of ASDU `i`, as they stand in the frame; `None` where there is no such
+    /// ASDU.
+    pub fn sv_id(&self, i: usize) -> Option<&[u8]> {
+        let (numbers, octets) = self.asdu_at(i)?;
+        octets[SV_ID_OCTETS..].get(..numbers[SV_ID_LENGTH] as usize)
+    }
+
+    /// The octets of datSet of ASDU `i`; `None` where there is none.
+    pub fn dat_set(&self, i: usize) -> Option<&[u8]> {
+        let (numbers, octets) = self.asdu_at(i)?;
+        let octets = octets[DAT_SET_OCTETS..].get(..numbers[DAT_SET_LENGTH] as usize)?;
+        (numbers[DAT_SET] == 1).then_some(octets)
+    }
+
+    /// The octets of security; `None` where there are none.
+    pub fn security(&self) -> Option<&[u8]> {
+        let octets =
+            self.octets[SECURITY_OCTETS..].get(..self.numbers[SECURITY_LENGTH] as usize)?;
+        (self.numbers[SECURITY] == 1).then_some(octets)
+    }
+
+    /// The counts, ASDU by ASDU and channel by channel.
+    pub fn counts(&self) -> &[i32] {
+        &self.counts[self.samples()]
+    }
+
+    /// The counts, each times the scale factor of its channel.
+    pub fn values(&self) -> &[f32] {
+        &self.values[self.samples()]
+    }
+
+    /// The quality words.
+    pub fn qualities(&self) -> &[u32] {
+        &self.qualities[self.samples()]
+    }
+
+    pub fn header(&self) -> EthernetHeader {
+        header_of(&self.numbers, &self.octets)
+    }
+
+    pub fn pdu(&self) -> SavPdu {
+        SavPdu {
+            sim: self.numbers[SIMULATION] == 1,
+            no_asdu: self.no_asdu() as u16,
+            security: self.security().map(<[u8]>::to_vec),
+            sav_asdu: (0..self.no_asdu()).map(|i| self.asdu(i)).collect(),
+        }
+    }
+
+    fn samples(&self) -> Range<usize> {
+        0..self.no_asdu() * self.channels
+    }
+
+    fn asdu_at(&self, i: usize) -> Option<(&[u32], &[u8])> {
+        let numbers = self.numbers[HEAD_NUMBERS..].chunks_exact(ASDU_NUMBERS);
+        let octets = self.octets[HEAD_OCTETS..].chunks_exact(ASDU_OCTETS);
+        numbers.zip(octets).take(self.no_asdu()).nth(i)
+    }
+
+    fn asdu(&self, i: usize) -> SavAsdu {
+        let Some((numbers, octets)) = self.asdu_at(i) else {
+            return SavAsdu::default();
+        };
+        let text = |octets| String::from_utf8_lossy(octets).into_owned();
+        let eight = |mark: usize, at: usize| (numbers[mark] == 1).then(|| array(octets, at));
+        let number = |mark: usize, at: usize| (numbers[mark] == 1).then_some(numbers[at] as u16);
+        let own = i * self.channels..(i + 1) * self.channels;
+        let samples = self.values[own.clone()].iter().zip(&self.qualities[own]).zip(&self.scales);
+        SavAsdu {
+            msv_id: text(self.sv_id(i).unwrap_or_default()),
+            dat_set: self.dat_set(i).map(text),
+            smp_cnt: numbers[SMP_CNT] as u16,
+            conf_rev: numbers[CONF_REV],
+            refr_tm: eight(REFR_TM, REFR_TM_OCTETS),
+            smp_synch: numbers[SMP_SYNCH] as u8,
+            smp_rate: number(SMP_RATE, SMP_RATE_VALUE),
+            all_data: samples
+                .map(|((value, word), scale)| Sample::new(*value, Quality::from_sv(*word), *scale))
+                .collect(),
+            smp_mod: number(SMP_MOD, SMP_MOD_VALUE),
+            gm_identity: eight(GM_IDENTITY, GM_IDENTITY_OCTETS),
+        }
+    }
+}
+
+/// The octets from a place on; zeros where there are none.
+fn array<const N: usize>(octets: &[u8], at: usize) -> [u8; N] {
+    octets.get(at..at + N).and_then(|octets| octets.try_into().ok()).unwrap_or([0; N])
+}
+
+/// The header of the first 6 numbers and the first 12 octets.
+pub(crate) fn header_of(numbers: &[u32], octets: &[u8]) -> EthernetHeader {
+    let two = |at: usize| (numbers[at] as u16).to_be_bytes();
+    let tagged = numbers[TAGGED] == 1;
+    EthernetHeader {
+        dst_addr: array(octets, DST_ADDR),
+        src_addr: array(octets, SRC_ADDR),
+        tpid: tagged.then(|| two(TPID)),
+        tci: tagged.then(|| two(TCI)),
+        ether_type: two(ETHER_TYPE),
+        appid: two(APPID),
+        length: two(LENGTH),
+    }
+}
+
+// ---- writing
+
+impl Frame {
+    /// Puts the records into the arrays, with the scale factors of the first ASDU. Refused as 9 what
+    /// no description can say: half a VLAN tag, noASDU other than the number of ASDUs, and numbers
+    /// of samples that differ.
+    pub(crate) fn describe(
+        &mut self,
+        header: &EthernetHeader,
+        pdu: &SavPdu,
+    ) -> Result<(), Refusal> {
+        let first = pdu.sav_asdu.first().map_or(&[][..], |asdu| &asdu.all_data);
+        if header.tpid.is_some() != header.tci.is_some()
+            || usize::from(pdu.no_asdu) != pdu.sav_asdu.len()
+            || pdu.sav_asdu.iter().any(|asdu| asdu.all_data.len() != first.len())
+        {
+            return Err(Refusal { number: Refusal::BAD_DESCRIPTION, place: 0 });
+        }
+        self.channels = first.len().min(CHANNELS);
+        for (scale, sample) in self.scales.iter_mut().zip(first) {
+            *scale = sample.scale_factor;
+        }
+        let two = |octets: [u8; 2]| u32::from(u16::from_be_bytes(octets));
+        let numbers = &mut self.numbers;
+        numbers[TAGGED] = u32::from(header.tpid.is_some());
+        numbers[TPID] = two(header.tpid.unwrap_or_default());
+        numbers[TCI] = two(header.tci.unwrap_or_default());
+        numbers[ETHER_TYPE] = two(header.ether_type);
+        numbers[APPID] = two(header.appid);
+        numbers[LENGTH] = 0;
+        numbers[SIMULATION] = u32::from(pdu.sim);
+        numbers[SECURITY] = u32::from(pdu.security.is_some());
+        let security = pdu.security.as_deref().unwrap_or_default();
+        let length = hold(&mut self.octets[SECURITY_OCTETS..][..MAX_SECURITY], security);
+        numbers[SECURITY_LENGTH] = length;
+        numbers[NO_ASDU] = pdu.sav_asdu.len().min(ASDUS) as u32;
+        hold(&mut self.octets[DST_ADDR..], &header.dst_addr);
+        hold(&mut self.octets[SRC_ADDR..], &header.src_addr);
+
+        let numbers = self.numbers[HEAD_NUMBERS..].chunks_exact_mut(ASDU_NUMBERS);
+        let octets = self.octets[HEAD_OCTETS..].chunks_exact_mut(ASDU_OCTETS);
+        for ((asdu, numbers), octets) in pdu.sav_asdu.iter().zip(numbers).zip(octets) {
+            describe_asdu(asdu, numbers, octets);
+        }
+        let channels = self.channels;
+        let samples = pdu.sav_asdu.iter().flat_map(|asdu| asdu.all_data.iter().take(channels));
+        for ((sample, value), word) in samples.zip(&mut self.values).zip(&mut self.qualities) {
+            *value = sample.value;
+            *word = sample.quality.to_sv();
+        }
+        Ok(())
+    }
+
+    /// Writes the frame of what was read or described, with these counts: how many octets.
+    pub(crate) fn write_counts(&self, counts: &[i32], frame: &mut [u8]) -> Result<usize, Refusal> {
+        let mut size = 0;
+        // SAFETY: every pointer is that of a slice or array of as many elements as are named after
+        // it, the frame is borrowed exclusively, and `size` is a local.
+        let number = unsafe {
+            hopsickle_write(
+                self.numbers.as_ptr(),
+                self.numbers.len(),
+                self.octets.as_ptr(),
+                self.octets.len(),
+                self.channels,
+                counts.as_ptr(),
+                counts.len(),
+                self.qualities.as_ptr(),
+                self.qualities.len(),
+                frame.as_mut_ptr(),
+                frame.len(),
+                &mut size,
+            )
+        };
+        Refusal::check(number, 0).map(|()| size)
+    }
+
+    /// Writes the frame of what was read again: how many octets. Equal to what was read, where that
+    /// was strictly.
+    pub fn write(&self, frame: &mut [u8]) -> Result<usize, Refusal> {
+        self.write_counts(&self.counts, frame)
+    }
+
+    /// Writes the frame of what was described, with its values.
+    pub(crate) fn write_values(&self, frame: &mut [u8]) -> Result<usize, Refusal> {
+        let mut size = 0;
+        // SAFETY: as in `write_counts`; there are at least as many scale factors as channels.
+        let number = unsafe {
+            hopsickle_write_values(
+                self.numbers.as_ptr(),
+                self.numbers.len(),
+                self.octets.as_ptr(),
+                self.octets.len(),
+                self.scales.as_ptr(),
+                self.channels,
+                self.values.as_ptr(),
+                self.values.len(),
+                self.qualities.as_ptr(),
+                self.qualities.len(),
+                frame.as_mut_ptr(),
+                frame.len(),
+                &mut size,
+            )
+        };
+        Refusal::check(number, 0).map(|()| size)
+    }
+
+    /// How many octets the writers write.
+    pub(crate) fn size(&self) -> Result<usize, Refusal> {
+        let mut size = 0;
+        // SAFETY: as in `write_counts`.
+        let number = unsafe {
+            hopsickle_size(
+                self.numbers.as_ptr(),
+                self.numbers.len(),
+                self.octets.as_ptr(),
+                self.octets.len(),
+                self.channels,
+                &mut size,
+            )
+        };
+        Refusal::check(number, 0).map(|()| size)
+    }
+}
+
+fn describe_asdu(asdu: &SavAsdu, numbers: &mut [u32], octets: &mut [u8]) {
+    let dat_set = asdu.dat_set.as_deref().unwrap_or_default();
+    numbers[SV_ID_LENGTH] = hold(&mut octets[SV_ID_OCTETS..][..MAX_TEXT], asdu.msv_id.as_bytes());
+    numbers[DAT_SET] = u32::from(asdu.dat_set.is_some());
+    numbers[DAT_SET_LENGTH] = hold(&mut octets[DAT_SET_OCTETS..][..MAX_TEXT], dat_set.as_bytes());
+    numbers[SMP_CNT] = u32::from(asdu.smp_cnt);
+    numbers[CONF_REV] = asdu.conf_rev;
+    numbers[REFR_TM] = u32::from(asdu.refr_tm.is_some());
+    numbers[SMP_SYNCH] = u32::from(asdu.smp_synch);
+    numbers[SMP_RATE] = u32::from(asdu.smp_rate.is_some());
+    numbers[SMP_RATE_VALUE] = u32::from(asdu.smp_rate.unwrap_or_default());
+    numbers[SMP_MOD] = u32::from(asdu.smp_mod.is_some());
+    numbers[SMP_MOD_VALUE] = u32::from(asdu.smp_mod.unwrap_or_default());
+    numbers[GM_IDENTITY] = u32::from(asdu.gm_identity.is_some());
+    hold(&mut octets[REFR_TM_OCTETS..], &asdu.refr_tm.unwrap_or_default());
+    hold(&mut octets[GM_IDENTITY_OCTETS..], &asdu.gm_identity.unwrap_or_default());
+}
+
+/// Copies octets to the start of a field, as many as it holds; the answer is how many there are,
+/// which the library refuses where the field doesn't hold them.
+fn hold(field: &mut [u8], octets: &[u8]) -> u32 {
+    for (held, octet) in field.iter_mut().zip(octets) {
+        *held = *octet;
+    }
+    octets.len().try_into().unwrap_or(u32::MAX)
+}

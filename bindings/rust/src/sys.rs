@@ -1,0 +1,178 @@
+//! The functions of libhopsickle.a, as include/hopsickle.h declares and describes them, and the
+//! places of a description in its arrays.
+
+/// `hopsickle_read` and `hopsickle_read_strict`.
+pub type Read = unsafe extern "C" fn(
+    frame: *const u8,
+    frame_len: usize,
+    channels: usize,
+    numbers: *mut u32,
+    numbers_len: usize,
+    octets: *mut u8,
+    octets_len: usize,
+    counts: *mut i32,
+    counts_len: usize,
+    qualities: *mut u32,
+    qualities_len: usize,
+    place: *mut usize,
+) -> usize;
+
+extern "C" {
+    pub fn hopsickle_is_smv(frame: *const u8, frame_len: usize) -> bool;
+
+    pub fn hopsickle_header(
+        frame: *const u8,
+        frame_len: usize,
+        numbers: *mut u32,
+        numbers_len: usize,
+        octets: *mut u8,
+        octets_len: usize,
+        place: *mut usize,
+    ) -> usize;
+
+    pub fn hopsickle_read(
+        frame: *const u8,
+        frame_len: usize,
+        channels: usize,
+        numbers: *mut u32,
+        numbers_len: usize,
+        octets: *mut u8,
+        octets_len: usize,
+        counts: *mut i32,
+        counts_len: usize,
+        qualities: *mut u32,
+        qualities_len: usize,
+        place: *mut usize,
+    ) -> usize;
+
+    pub fn hopsickle_decode(
+        frame: *const u8,
+        frame_len: usize,
+        at: usize,
+        channels: usize,
+        numbers: *mut u32,
+        numbers_len: usize,
+        octets: *mut u8,
+        octets_len: usize,
+        counts: *mut i32,
+        counts_len: usize,
+        qualities: *mut u32,
+        qualities_len: usize,
+        place: *mut usize,
+    ) -> usize;
+
+    pub fn hopsickle_read_strict(
+        frame: *const u8,
+        frame_len: usize,
+        channels: usize,
+        numbers: *mut u32,
+        numbers_len: usize,
+        octets: *mut u8,
+        octets_len: usize,
+        counts: *mut i32,
+        counts_len: usize,
+        qualities: *mut u32,
+        qualities_len: usize,
+        place: *mut usize,
+    ) -> usize;
+
+    pub fn hopsickle_values(
+        scales: *const f32,
+        channels: usize,
+        no_asdu: u16,
+        counts: *const i32,
+        counts_len: usize,
+        values: *mut f32,
+        values_len: usize,
+        written: *mut usize,
+    ) -> usize;
+
+    pub fn hopsickle_write(
+        numbers: *const u32,
+        numbers_len: usize,
+        octets: *const u8,
+        octets_len: usize,
+        channels: usize,
+        counts: *const i32,
+        counts_len: usize,
+        qualities: *const u32,
+        qualities_len: usize,
+        frame: *mut u8,
+        frame_len: usize,
+        size: *mut usize,
+    ) -> usize;
+
+    pub fn hopsickle_write_values(
+        numbers: *const u32,
+        numbers_len: usize,
+        octets: *const u8,
+        octets_len: usize,
+        scales: *const f32,
+        channels: usize,
+        values: *const f32,
+        values_len: usize,
+        qualities: *const u32,
+        qualities_len: usize,
+        frame: *mut u8,
+        frame_len: usize,
+        size: *mut usize,
+    ) -> usize;
+
+    pub fn hopsickle_size(
+        numbers: *const u32,
+        numbers_len: usize,
+        octets: *const u8,
+        octets_len: usize,
+        channels: usize,
+        size: *mut usize,
+    ) -> usize;
+}
+
+pub const MAX_ASDUS: usize = 8;
+pub const MAX_CHANNELS: usize = 24;
+pub const MAX_SAMPLES: usize = 192;
+pub const MAX_TEXT: usize = 127;
+pub const MAX_SECURITY: usize = 64;
+pub const MAX_FRAME: usize = 1518;
+
+pub const TAGGED: usize = 0;
+pub const TPID: usize = 1;
+pub const TCI: usize = 2;
+pub const ETHER_TYPE: usize = 3;
+pub const APPID: usize = 4;
+pub const LENGTH: usize = 5;
+pub const SIMULATION: usize = 6;
+pub const SECURITY: usize = 7;
+pub const SECURITY_LENGTH: usize = 8;
+pub const NO_ASDU: usize = 9;
+pub const HEAD_NUMBERS: usize = 10;
+pub const HEADER_NUMBERS: usize = 6;
+
+pub const SV_ID_LENGTH: usize = 0;
+pub const DAT_SET: usize = 1;
+pub const DAT_SET_LENGTH: usize = 2;
+pub const SMP_CNT: usize = 3;
+pub const CONF_REV: usize = 4;
+pub const REFR_TM: usize = 5;
+pub const SMP_SYNCH: usize = 6;
+pub const SMP_RATE: usize = 7;
+pub const SMP_RATE_VALUE: usize = 8;
+pub const SMP_MOD: usize = 9;
+pub const SMP_MOD_VALUE: usize = 10;
+pub const GM_IDENTITY: usize = 11;
+pub const ASDU_NUMBERS: usize = 12;
+
+pub const DST_ADDR: usize = 0;
+pub const SRC_ADDR: usize = 6;
+pub const SECURITY_OCTETS: usize = 12;
+pub const HEAD_OCTETS: usize = 76;
+pub const HEADER_OCTETS: usize = 12;
+
+pub const SV_ID_OCTETS: usize = 0;
+pub const DAT_SET_OCTETS: usize = 127;
+pub const REFR_TM_OCTETS: usize = 254;
+pub const GM_IDENTITY_OCTETS: usize = 262;
+pub const ASDU_OCTETS: usize = 270;
+
+pub const MAX_NUMBERS: usize = 106;
+pub const MAX_OCTETS: usize = 2236;

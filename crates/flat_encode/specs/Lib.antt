@@ -1,0 +1,5 @@
+pub mod Records
+pub mod Checked
+pub mod Described
+pub mod Sized
+pub mod Values

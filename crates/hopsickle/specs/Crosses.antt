@@ -1,0 +1,190 @@
+-- What each call leaves for its caller: the refusal's number, or 0; beside it the refusal's place, or a size; and the lent arrays.
+use mathlib.Core.Path.{_≡_, refl, sym, ap, _∙_}
+use mathlib.Core.List.{List, [], _∷_, _++_}
+use mathlib.Core.Logic.{_⊎_, inl, inr}
+use mathlib.Core.Bool.{false}
+use Prim.Native.Nat.{ℕ, zero, suc, _-_, _*_, _%_, _≤_, _<_}
+use native.Mathlib.Nat.{mul-zero, mod-lt, eq-zero-or-pos}
+use native.Mathlib.Omega.{arith}
+use lib.ListN.{length, take, drop, replicate, length-append, List·getD-append}
+use lib.IntN.{ℤ}
+use lib.Ieee.{Float, nan}
+use borrow.Author.Tests.{lt-ltb, le-ltb}
+use Rattle.definition.specs.Limits.{maxChannels, noRoom, tooManyChannels}
+use Rattle.definition.specs.Frame.{Description}
+use Rattle.definition.specs.Read.{Out, got, refused, Header, headerAt}
+use Rattle.definition.specs.Held.{filledTo}
+use Rattle.definition.specs.Scaling.{upTo, valuesOf, valuesAnswer}
+use Rattle.definition.specs.Answers.{Answer, accepted, refusal, over, leaves, allCounts, allQualities}
+use Rattle.definition.specs.Flat.{headerNumbers, headerOctets, numbersOf, octetsOf, numbersOfHeader, octetsOfHeader, flatHeader, left, numberOf, besideIt}
+use Rattle.flat_decode.specs.declared.FlatRead.{FlatRead}
+use Rattle.flat_decode.specs.declared.FlatRead.the-variants as flat
+use Rattle.flat_decode.specs.Told.{toldFlat, Left}
+use Rattle.flat_decode.specs.Numbers.{headOf}
+use Rattle.flat_decode.specs.Stores.{put-next}
+use Rattle.flat_encode.specs.Values.{noScale, dataSetOf}
+use Rattle.ber_encode.specs.Put.{put, put-over}
+use Rattle.rt_services.specs.Describe.{headerOf}
+use Rattle.rt_services.specs.declared.Refusal.{Refusal}
+use Rattle.rt_services.specs.declared.EthernetHeader.{EthernetHeader}
+use Rattle.rt_services.specs.declared.SavDataSetConfig.{SavDataSetConfig}
+use Rattle.rt_services.specs.declared.Presence.the-variants as presence
+use Rattle.ethernet_header.specs.Header.{headerRead, noHeader}
+use Rattle.ethernet_header.specs.declared.HeaderRead.{HeaderRead}
+use Rattle.ethernet_header.specs.declared.HeaderEnd.the-variants as end
+use Rattle.scaling.specs.declared.Valued.{Valued}
+use Rattle.scaling.specs.Told.{toldValues}
+
+-- the number and the place of an answer that holds nothing else
+abbrev pub flatNumber : FlatRead → ℕ
+flatNumber (flat.Refused r) = r .number
+flatNumber flat.Read = 0
+
+abbrev pub flatPlace : FlatRead → ℕ
+flatPlace (flat.Refused r) = r .place
+flatPlace flat.Read = 0
+
+-- a reading: the arrays k, o, cs and qs become k′, o′, cs′ and qs′
+pub record Reads (x : Answer (Description × ℕ)) (k k′ o o′ : List ℕ) (cs cs′ : List ℤ) (qs qs′ : List ℕ) (r beside : ℕ) : Type 0 where
+  pub number : r ≡ numberOf x
+  pub place : beside ≡ besideIt (λ y. 0) x
+  pub numbers : k′ ≡ left numbersOf x k
+  pub octets : o′ ≡ left octetsOf x o
+  pub counts : cs′ ≡ left (λ y. allCounts (y .0 .asdus)) x cs
+  pub qualities : qs′ ≡ left (λ y. allQualities (y .0 .asdus)) x qs
+
+-- a header's reading; beside the number stands the place after the header
+pub record ReadsHeader (x : Answer (Header × ℕ)) (k k′ o o′ : List ℕ) (r beside : ℕ) : Type 0 where
+  pub number : r ≡ numberOf x
+  pub place : beside ≡ besideIt (λ y. y .1) x
+  pub numbers : k′ ≡ left (λ y. numbersOfHeader (y .0)) x k
+  pub octets : o′ ≡ left (λ y. octetsOfHeader (y .0)) x o
+
+-- an answer that is a size, and beside it what is written at the start of a lent array
+pub record Writes {A : Type 0} (x : Answer ℕ) (written old new : List A) (r beside : ℕ) : Type 0 where
+  pub number : r ≡ numberOf x
+  pub size : beside ≡ besideIt (λ n. n) x
+  pub array : new ≡ leaves x old 0 written
+
+-- ---- from the answers of the functions that are called
+
+reads-number : (x : Answer (Description × ℕ)) → flatNumber (toldFlat x) ≡ numberOf x
+reads-number (accepted y) = refl
+reads-number (refusal k at) = refl
+
+reads-place : (x : Answer (Description × ℕ)) → flatPlace (toldFlat x) ≡ besideIt (λ y. 0) x
+reads-place (accepted y) = refl
+reads-place (refusal k at) = refl
+
+pub reads : {x : Answer (Description × ℕ)} {k k′ o o′ : List ℕ} {cs cs′ : List ℤ} {qs qs′ : List ℕ} {f : FlatRead} {r place : ℕ}
+    → Left x k o cs qs f k′ o′ cs′ qs′ → (r ≡ flatNumber f) × (place ≡ flatPlace f) → Reads x k k′ o o′ cs cs′ qs qs′ r place
+reads {x} {f = f} l e = record {
+  number = e .0 ∙ ap flatNumber (l .told) ∙ reads-number x;
+  place = e .1 ∙ ap flatPlace (l .told) ∙ reads-place x;
+  numbers = l .numbers;
+  octets = l .octets;
+  counts = l .counts;
+  qualities = l .qualities;
+}
+
+pub writes : {A : Type 0} {x y : Answer ℕ} {written old new : List A} {r size : ℕ} → y ≡ x → new ≡ leaves x old 0 written
+    → (r ≡ numberOf y) × (size ≡ besideIt (λ n. n) y) → Writes x written old new r size
+writes e f g = record { number = g .0 ∙ ap numberOf e; size = g .1 ∙ ap (besideIt (λ n. n)) e; array = f }
+
+-- ---- the header
+
+-- a header that was not read
+pub header-not : (s : List ℕ) (x : HeaderRead) → x ≡ headerRead (headerAt s) → {z : Refusal} → x .outcome ≡ end.Refused z → headerAt s ≡ refused (z .number) (z .place)
+unfolding headerRead noHeader
+header-not s x e {z} w = go (headerAt s) e
+  where
+    go : (o : Out Header) → x ≡ headerRead o → o ≡ refused (z .number) (z .place)
+    go (got h at) e =
+        let f : end.Next (record { at = at }) ≡ end.Refused z = sym (ap (λ (y : HeaderRead). y .outcome) e) ∙ w in
+        let q : _≡_ {A = ℕ} 0 1 = cc in absurd (omega arith)
+    go (refused k p) e =
+        let f : end.Refused (record { number = k; place = p }) ≡ end.Refused z = sym (ap (λ (y : HeaderRead). y .outcome) e) ∙ w in
+        let g : record { number = k; place = p } ≡ z = cc in
+        ap (λ (y : Refusal). refused (y .number) (y .place)) g
+
+-- the first six of a head's numbers are the header's
+pub header-numbers : (h : EthernetHeader) (zs : List ℕ) → length zs ≡ 106 → take headerNumbers (put zs 0 (headOf h false presence.Absent 0 0)) ≡ numbersOfHeader (headerOf h)
+unfolding numbersOfHeader headerOf headOf over
+header-numbers h zs l = rw (put-over zs 0 (headOf h false presence.Absent 0 0) (omega arith)) refl
+
+pub header-octets : (h : EthernetHeader) (o : List ℕ) → length (h .«dst_addr») ≡ 6 → length (h .«src_addr») ≡ 6 → headerOctets ≤ length o
+    → put (put o 0 (h .«dst_addr»)) 6 (h .«src_addr») ≡ over o 0 (octetsOfHeader (headerOf h))
+unfolding octetsOfHeader headerOf
+header-octets h o d s l =
+    put-next o 0 (h .«dst_addr») (h .«src_addr») 6 d
+    ∙ put-over o 0 (h .«dst_addr» ++ h .«src_addr») (omega (arith, length-append (h .«dst_addr») (h .«src_addr»)))
+
+module _ (a b : ℕ) (s : List ℕ) (k o : List ℕ) where
+  pub header-refused : (j p : ℕ) → headerAt s ≡ refused j p → ReadsHeader (flatHeader a b s) k k o o j p
+  unfolding flatHeader
+  header-refused j p e = record { number = rw e; place = rw e; numbers = rw e; octets = rw e }
+
+  module _ (h : Header) (at : ℕ) (e : headerAt s ≡ got h at) where
+    pub header-no-numbers : a < headerNumbers → ReadsHeader (flatHeader a b s) k k o o noRoom 0
+    unfolding flatHeader
+    header-no-numbers l = let g = lt-ltb a headerNumbers l in record { number = rw (e, g); place = rw (e, g); numbers = rw (e, g); octets = rw (e, g) }
+
+    pub header-no-octets : headerNumbers ≤ a → b < headerOctets → ReadsHeader (flatHeader a b s) k k o o noRoom 0
+    unfolding flatHeader
+    header-no-octets i l =
+        let f = le-ltb a headerNumbers i in
+        let g = lt-ltb b headerOctets l in
+        record { number = rw (e, f, g); place = rw (e, f, g); numbers = rw (e, f, g); octets = rw (e, f, g) }
+
+    pub header-read : headerNumbers ≤ a → headerOctets ≤ b → {k′ o′ : List ℕ} → k′ ≡ over k 0 (numbersOfHeader h) → o′ ≡ over o 0 (octetsOfHeader h)
+        → ReadsHeader (flatHeader a b s) k k′ o o′ 0 at
+    unfolding flatHeader
+    header-read i l x y =
+        let f = le-ltb a headerNumbers i in
+        let g = le-ltb b headerOctets l in
+        record { number = rw (e, f, g); place = rw (e, f, g); numbers = x ∙ rw (e, f, g); octets = y ∙ rw (e, f, g) }
+
+-- ---- the values
+
+values-same : (m : ℕ) (f g : ℕ → Float) → ((i : ℕ) → i < m → f i ≡ g i) → upTo m f ≡ upTo m g
+unfolding upTo
+values-same zero f g e = refl
+values-same (suc m) f g e = rw (values-same m f g (λ i h. e i (omega arith)), e m (omega arith))
+
+-- only the scale factors of the channels count
+pub values-only : (scales : List Float) (counts : List ℤ) (m : ℕ)
+    → valuesOf (length scales) (filledTo noScale maxChannels scales) counts (m * length scales) ≡ valuesOf (length scales) scales counts (m * length scales)
+unfolding valuesOf filledTo
+values-only scales counts m =
+    values-same (m * length scales) _ _ (λ i h. rw (List·getD-append scales (replicate (maxChannels - length scales) noScale) nan (i % length scales) (channel i h)))
+  where
+    channel : (i : ℕ) → i < m * length scales → i % length scales < length scales
+    channel i h = elim (eq-zero-or-pos (length scales)) [
+      | inl z ↦ absurd (let p : m * length scales ≡ 0 = rw z (mul-zero m) in omega arith)
+      | inr p ↦ mod-lt i p
+    ]
+
+module _ (scales : List Float) (noASDU : ℕ) (counts : List ℤ) (old : List Float) where
+  abbrev written : List Float
+  written = valuesOf (length scales) scales counts (noASDU * length scales)
+
+  -- 8
+  pub values-many : (b : ℕ) → maxChannels < length scales → Writes (valuesAnswer (length scales) noASDU (length counts) b) written old old tooManyChannels 0
+  unfolding valuesAnswer
+  values-many b h = let e = lt-ltb maxChannels (length scales) h in record { number = rw e; size = rw e; array = rw e }
+
+  -- as the call for a data set answers
+  pub values-are : (new : List Float) {config : SavDataSetConfig} → config ≡ dataSetOf scales → (v : Valued)
+      → toldValues v ≡ valuesAnswer (config .channels) noASDU (length counts) (length old)
+      → new ≡ leaves (toldValues v) old 0 (valuesOf (config .channels) (config .«scale_factor») counts (noASDU * config .channels))
+      → {x : Answer ℕ} → toldValues v ≡ x
+      → Writes (valuesAnswer (length scales) noASDU (length counts) (length old)) written old new (numberOf x) (besideIt (λ n. n) x)
+  unfolding dataSetOf
+  values-are new {config} c v e f {x} g =
+      let a : toldValues v ≡ valuesAnswer (length scales) noASDU (length counts) (length old) = rw c at e in
+      let l : new ≡ leaves (toldValues v) old 0 (valuesOf (length scales) (filledTo noScale maxChannels scales) counts (noASDU * length scales)) = rw c at f in
+      record {
+        number = ap numberOf (sym g ∙ a);
+        size = ap (besideIt (λ n. n)) (sym g ∙ a);
+        array = rw (← a) (l ∙ rw (values-only scales counts noASDU));
+      }

@@ -1,0 +1,248 @@
+// The functions that programs in C and Rust call. Descriptions cross in two arrays, one of numbers
+// and one of octets, whose places are in the crate layout. Each function answers the number of a
+// refusal, or 0, and writes its place, or the size of what it wrote, through the last parameter. A
+// refusal changes none of the arrays.
+ghost use mathlib.Core.Path.{_≡_};
+ghost use Prim.Native.Nat.{_*_, _≤_};
+ghost use lib.ListN.{length};
+ghost use Rattle.definition.specs.Read.{isSmvFrame};
+ghost use Rattle.definition.specs.Frame.{frameOctets};
+ghost use Rattle.definition.specs.Answers.{over};
+ghost use Rattle.definition.specs.Scaling.{valuesAnswer, valuesOf};
+ghost use Rattle.definition.specs.Flat.{headerNumbers, headerOctets, numbersOfHeader, octetsOfHeader, flatDescription, flatHeader, flatRead, flatDecode, flatStrict, flatEncode, flatEncodeValues, flatSize, numberOf, besideIt};
+ghost use Rattle.rt_services.specs.Describe.{headerOf};
+ghost use Rattle.ber_encode.specs.Told.{told};
+ghost use Rattle.flat_encode.specs.Values.{countsFor, countsIn, describedBy};
+ghost use Rattle.hopsickle.specs.Crosses.{flatNumber, flatPlace, Reads, ReadsHeader, Writes};
+use ber_encode::Written;
+use ethernet_header::HeaderEnd;
+use flat_decode::FlatRead;
+use rt_services::EthernetHeader;
+use rt_services::Presence;
+use rt_services::Refusal;
+use rt_services::SavDataSetConfig;
+use scaling::Valued;
+
+// The number of a refusal, and its place; 0 and 0 where there is none.
+fn answer(read: FlatRead, place: &mut usize) -> usize
+    ensures { λ r. ⌜ (r ≡ flatNumber read) × (now (place .exit) ≡ flatPlace read) ⌝ }
+{
+    match read {
+        FlatRead::Refused(r) => {
+            *place = r.place;
+            r.number
+        }
+        FlatRead::Read => {
+            *place = 0;
+            0
+        }
+    }
+}
+
+// The number of a refusal and its place; or 0, and the octets written.
+fn written(w: Written, size: &mut usize) -> usize
+    ensures { λ r. ⌜ (r ≡ numberOf (told w)) × (now (size .exit) ≡ besideIt (λ n. n) (told w)) ⌝ }
+{
+    match w {
+        Written::Refused(r) => {
+            *size = r.place;
+            r.number
+        }
+        Written::At(n) => {
+            *size = n;
+            0
+        }
+    }
+}
+
+// Whether the EtherType is there, and is that of sampled values.
+#[no_mangle]
+pub extern "C" fn hopsickle_is_smv(frame: &[u8]) -> bool
+    ensures { λ r. ⌜ r ≡ isSmvFrame (now (frame .entry)) ⌝ }
+{
+    ethernet_header::is_smv_frame(frame)
+}
+
+// A header's numbers and octets.
+fn put_header(header: EthernetHeader, numbers: &mut [u32], octets: &mut [u8])
+    requires { ⌜ (headerNumbers ≤ length (now numbers)) × (headerOctets ≤ length (now octets)) ⌝ }
+    ensures { λ _. ⌜ (now (numbers .exit) ≡ over (now (numbers .entry)) 0 (numbersOfHeader (headerOf header)))
+        × (now (octets .exit) ≡ over (now (octets .entry)) 0 (octetsOfHeader (headerOf header))) ⌝ }
+{
+    let mut own = [0u32; layout::MAX_NUMBERS];
+    flat_decode::numbers::put_head(&mut own, header, false, Presence::Absent, 0, 0);
+    flat_decode::numbers::copy(&own, numbers, layout::HEADER_NUMBERS);
+    let dst_addr = header.dst_addr;
+    let src_addr = header.src_addr;
+    ber_encode::put_bytes(octets, layout::DST_ADDR, &dst_addr);
+    ber_encode::put_bytes(octets, layout::SRC_ADDR, &src_addr);
+}
+
+// The header: the first 6 numbers and the first 12 octets, and the place after it.
+#[no_mangle]
+pub extern "C" fn hopsickle_header(
+    frame: &[u8],
+    numbers: &mut [u32],
+    octets: &mut [u8],
+    place: &mut usize,
+) -> usize
+    ensures { λ r. ⌜ ReadsHeader (flatHeader (length (now (numbers .entry))) (length (now (octets .entry))) (now (frame .entry)))
+        (now (numbers .entry)) (now (numbers .exit)) (now (octets .entry)) (now (octets .exit)) r (now (place .exit)) ⌝ }
+{
+    let headed = ethernet_header::decode_ethernet_header(frame);
+    let step = headed.outcome;
+    let HeaderEnd::Next(c) = step else {
+        let r = step.refusal();
+        *place = r.place;
+        return r.number;
+    };
+    if numbers.len() < layout::HEADER_NUMBERS {
+        *place = 0;
+        return Refusal::NO_ROOM;
+    }
+    if octets.len() < layout::HEADER_OCTETS {
+        *place = 0;
+        return Refusal::NO_ROOM;
+    }
+    let header = headed.header;
+    put_header(header, numbers, octets);
+    *place = c.at;
+    0
+}
+
+// A frame, the ordinary way.
+#[no_mangle]
+pub extern "C" fn hopsickle_read(
+    frame: &[u8],
+    channels: usize,
+    numbers: &mut [u32],
+    octets: &mut [u8],
+    counts: &mut [i32],
+    qualities: &mut [u32],
+    place: &mut usize,
+) -> usize
+    ensures { λ r. ⌜ Reads (flatRead channels (length (now (numbers .entry))) (length (now (octets .entry))) (length (now (counts .entry))) (length (now (qualities .entry))) (now (frame .entry)))
+        (now (numbers .entry)) (now (numbers .exit)) (now (octets .entry)) (now (octets .exit)) (now (counts .entry)) (now (counts .exit)) (now (qualities .entry)) (now (qualities .exit)) r (now (place .exit)) ⌝ }
+{
+    let read = flat_decode::read_frame(frame, channels, numbers, octets, counts, qualities);
+    answer(read, place)
+}
+
+// A PDU from a place on; the header's numbers and octets are zero.
+#[no_mangle]
+pub extern "C" fn hopsickle_decode(
+    frame: &[u8],
+    at: usize,
+    channels: usize,
+    numbers: &mut [u32],
+    octets: &mut [u8],
+    counts: &mut [i32],
+    qualities: &mut [u32],
+    place: &mut usize,
+) -> usize
+    ensures { λ r. ⌜ Reads (flatDecode channels (length (now (numbers .entry))) (length (now (octets .entry))) (length (now (counts .entry))) (length (now (qualities .entry))) (now (frame .entry)) at)
+        (now (numbers .entry)) (now (numbers .exit)) (now (octets .entry)) (now (octets .exit)) (now (counts .entry)) (now (counts .exit)) (now (qualities .entry)) (now (qualities .exit)) r (now (place .exit)) ⌝ }
+{
+    let read = flat_decode::decode_smv(frame, at, channels, numbers, octets, counts, qualities);
+    answer(read, place)
+}
+
+// A frame, if it is what the writer writes of what was read.
+#[no_mangle]
+pub extern "C" fn hopsickle_read_strict(
+    frame: &[u8],
+    channels: usize,
+    numbers: &mut [u32],
+    octets: &mut [u8],
+    counts: &mut [i32],
+    qualities: &mut [u32],
+    place: &mut usize,
+) -> usize
+    ensures { λ r. ⌜ Reads (flatStrict channels (length (now (numbers .entry))) (length (now (octets .entry))) (length (now (counts .entry))) (length (now (qualities .entry))) (now (frame .entry)))
+        (now (numbers .entry)) (now (numbers .exit)) (now (octets .entry)) (now (octets .exit)) (now (counts .entry)) (now (counts .exit)) (now (qualities .entry)) (now (qualities .exit)) r (now (place .exit)) ⌝ }
+{
+    let read = flat_strict::read_strict(frame, channels, numbers, octets, counts, qualities);
+    answer(read, place)
+}
+
+// Writes the frame of a description with these counts and quality words.
+#[no_mangle]
+pub extern "C" fn hopsickle_write(
+    numbers: &[u32],
+    octets: &[u8],
+    channels: usize,
+    counts: &[i32],
+    qualities: &[u32],
+    frame: &mut [u8],
+    size: &mut usize,
+) -> usize
+    ensures { λ r. ⌜ Writes (flatEncode channels (now (numbers .entry)) (now (octets .entry)) (now (counts .entry)) (now (qualities .entry)) (length (now (frame .entry))))
+        (frameOctets (flatDescription channels (now (numbers .entry)) (now (octets .entry)) (now (counts .entry)) (now (qualities .entry)))) (now (frame .entry)) (now (frame .exit)) r (now (size .exit)) ⌝ }
+{
+    let w = flat_encode::encode_smv(numbers, octets, channels, counts, qualities, frame);
+    written(w, size)
+}
+
+// Writes the frame of a description whose counts are those of the values: one scale factor for
+// each channel.
+#[no_mangle]
+pub extern "C" fn hopsickle_write_values(
+    numbers: &[u32],
+    octets: &[u8],
+    scales: &[f32],
+    values: &[f32],
+    qualities: &[u32],
+    frame: &mut [u8],
+    size: &mut usize,
+) -> usize
+    ensures { λ r. ⌜ Writes (flatEncodeValues (length (now (scales .entry))) (now (numbers .entry)) (now (octets .entry)) (length (now (values .entry))) (countsFor (now (numbers .entry)) (now (scales .entry)) (now (values .entry))) (countsIn (now (numbers .entry)) (now (scales .entry)) (now (values .entry))) (now (qualities .entry)) (length (now (frame .entry))))
+        (frameOctets (describedBy (now (numbers .entry)) (now (octets .entry)) (now (scales .entry)) (now (values .entry)) (now (qualities .entry)))) (now (frame .entry)) (now (frame .exit)) r (now (size .exit)) ⌝ }
+{
+    let w = flat_encode::encode_values(numbers, octets, scales, values, qualities, frame);
+    written(w, size)
+}
+
+// How many octets the frame of a description is written in.
+#[no_mangle]
+pub extern "C" fn hopsickle_size(
+    numbers: &[u32],
+    octets: &[u8],
+    channels: usize,
+    size: &mut usize,
+) -> usize
+    ensures { λ r. ⌜ (r ≡ numberOf (flatSize channels (now (numbers .entry)) (now (octets .entry))))
+        × (now (size .exit) ≡ besideIt (λ n. n) (flatSize channels (now (numbers .entry)) (now (octets .entry)))) ⌝ }
+{
+    let w = flat_encode::smv_size(numbers, octets, channels);
+    written(w, size)
+}
+
+// The values of the counts of no_asdu ASDUs: one scale factor for each channel.
+#[no_mangle]
+pub extern "C" fn hopsickle_values(
+    scales: &[f32],
+    no_asdu: u16,
+    counts: &[i32],
+    values: &mut [f32],
+    size: &mut usize,
+) -> usize
+    ensures { λ r. ⌜ Writes (valuesAnswer (length (now (scales .entry))) «no_asdu» (length (now (counts .entry))) (length (now (values .entry))))
+        (valuesOf (length (now (scales .entry))) (now (scales .entry)) (now (counts .entry)) («no_asdu» * length (now (scales .entry)))) (now (values .entry)) (now (values .exit)) r (now (size .exit)) ⌝ }
+{
+    if SavDataSetConfig::MAX_CHANNELS < scales.len() {
+        *size = 0;
+        return Refusal::TOO_MANY_CHANNELS;
+    }
+    let config = flat_encode::data_set(scales);
+    let v = scaling::values_of(config, no_asdu, counts, values);
+    match v {
+        Valued::Refused(r) => {
+            *size = r.place;
+            r.number
+        }
+        Valued::Values(m) => {
+            *size = m;
+            0
+        }
+    }
+}

@@ -1,0 +1,84 @@
+/* Writes a 9-2LE frame of one ASDU, reads it strictly, and prints its readings. */
+#include <stdio.h>
+#include <string.h>
+
+#include "hopsickle.h"
+
+#define CHANNELS 8
+
+static const char *const names[CHANNELS] = {"Ia", "Ib", "Ic", "In", "Ua", "Ub", "Uc", "Un"};
+static const float scales[CHANNELS] = {0.0001f, 0.0001f, 0.0001f, 0.0001f, 0.01f, 0.01f, 0.01f, 0.01f};
+
+static const uint8_t addresses[12] = {0x01, 0x0c, 0xcd, 0x04, 0x00, 0x01, 0x00, 0x00, 0x00, 0x00, 0x00, 0x02};
+static const char sv_id[] = "Feeder3_MU";
+
+static const int32_t sent[CHANNELS] = {1234567, -617283, -617284, 0, 1632993, -816497, -816496, 0};
+static const uint32_t words[CHANNELS] = {0, 0, 0, 0x0800, 0, 0, 0, 0x0043};
+
+static int refused(const char *call, size_t number, size_t place)
+{
+    printf("%s: refused %lu at %lu\n", call, (unsigned long)number, (unsigned long)place);
+    return 1;
+}
+
+/* The frame's octets; the answer is the refusal's number. */
+static size_t write_frame(uint8_t *frame, size_t frame_len, size_t *size)
+{
+    uint32_t numbers[HOPSICKLE_MAX_NUMBERS] = {0};
+    uint8_t octets[HOPSICKLE_MAX_OCTETS] = {0};
+
+    numbers[HOPSICKLE_TAGGED] = 1;
+    numbers[HOPSICKLE_TPID] = 0x8100;
+    numbers[HOPSICKLE_TCI] = 0x8000; /* priority 4 */
+    numbers[HOPSICKLE_ETHER_TYPE] = 0x88ba;
+    numbers[HOPSICKLE_APPID] = 0x4000;
+    numbers[HOPSICKLE_NO_ASDU] = 1;
+    numbers[HOPSICKLE_NUMBER(0, HOPSICKLE_SV_ID_LENGTH)] = sizeof sv_id - 1;
+    numbers[HOPSICKLE_NUMBER(0, HOPSICKLE_SMP_CNT)] = 3999;
+    numbers[HOPSICKLE_NUMBER(0, HOPSICKLE_CONF_REV)] = 1;
+    numbers[HOPSICKLE_NUMBER(0, HOPSICKLE_SMP_SYNCH)] = 2;
+    memcpy(octets + HOPSICKLE_DST_ADDR, addresses, sizeof addresses);
+    memcpy(octets + HOPSICKLE_OCTET(0, HOPSICKLE_SV_ID_OCTETS), sv_id, sizeof sv_id - 1);
+    return hopsickle_write(numbers, HOPSICKLE_MAX_NUMBERS, octets, HOPSICKLE_MAX_OCTETS, CHANNELS,
+                           sent, CHANNELS, words, CHANNELS, frame, frame_len, size);
+}
+
+int main(void)
+{
+    uint8_t frame[HOPSICKLE_MAX_FRAME];
+    uint32_t numbers[HOPSICKLE_MAX_NUMBERS];
+    uint8_t octets[HOPSICKLE_MAX_OCTETS];
+    int32_t counts[HOPSICKLE_MAX_SAMPLES];
+    uint32_t qualities[HOPSICKLE_MAX_SAMPLES];
+    float values[HOPSICKLE_MAX_SAMPLES];
+    size_t number, size, place, written, i, j;
+
+    number = write_frame(frame, sizeof frame, &size);
+    if (number != HOPSICKLE_ACCEPTED)
+        return refused("hopsickle_write", number, 0);
+    printf("%lu octets\n", (unsigned long)size);
+
+    number = hopsickle_read_strict(frame, size, CHANNELS, numbers, HOPSICKLE_MAX_NUMBERS,
+                                   octets, HOPSICKLE_MAX_OCTETS, counts, HOPSICKLE_MAX_SAMPLES,
+                                   qualities, HOPSICKLE_MAX_SAMPLES, &place);
+    if (number != HOPSICKLE_ACCEPTED)
+        return refused("hopsickle_read_strict", number, place);
+
+    number = hopsickle_values(scales, CHANNELS, (uint16_t)numbers[HOPSICKLE_NO_ASDU],
+                              counts, HOPSICKLE_MAX_SAMPLES, values, HOPSICKLE_MAX_SAMPLES, &written);
+    if (number != HOPSICKLE_ACCEPTED)
+        return refused("hopsickle_values", number, 0);
+
+    for (i = 0; i < numbers[HOPSICKLE_NO_ASDU]; i++) {
+        printf("%.*s, smpCnt %lu, confRev %lu, smpSynch %lu\n",
+               (int)numbers[HOPSICKLE_NUMBER(i, HOPSICKLE_SV_ID_LENGTH)],
+               (const char *)octets + HOPSICKLE_OCTET(i, HOPSICKLE_SV_ID_OCTETS),
+               (unsigned long)numbers[HOPSICKLE_NUMBER(i, HOPSICKLE_SMP_CNT)],
+               (unsigned long)numbers[HOPSICKLE_NUMBER(i, HOPSICKLE_CONF_REV)],
+               (unsigned long)numbers[HOPSICKLE_NUMBER(i, HOPSICKLE_SMP_SYNCH)]);
+        for (j = 0; j < CHANNELS; j++)
+            printf("%s %10ld %11.4f %04lx\n", names[j], (long)counts[i * CHANNELS + j],
+                   (double)values[i * CHANNELS + j], (unsigned long)qualities[i * CHANNELS + j]);
+    }
+    return 0;
+}

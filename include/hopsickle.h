@@ -1,0 +1,226 @@
+/*
+ * Hopsickle: reads and writes IEC 61850-9-2 sampled-value frames. The functions are those of
+ * target/staticlib/libhopsickle.a, each proved to answer what crates/definition says.
+ *
+ * A description of a frame crosses in two arrays, one of numbers and one of octets, with the places
+ * below; its samples cross in two more, counts and quality words, ASDU by ASDU and channel by
+ * channel: sample j of ASDU i stands at i * channels + j.
+ *
+ * Every function answers 0 where it accepts, else the number of a refusal, and then the only thing
+ * it has written is the place or the size. hopsickle_is_smv alone answers a bool.
+ *
+ * An array is lent as a pointer and the number of its elements. The caller sees to it that
+ * - each pointer points to as many elements as it says, also where that is 0, and is never null;
+ * - what a function writes (arrays, place, size, written) overlaps nothing else that is lent to it.
+ * Nothing is kept after a call, so calls from several threads don't disturb each other.
+ */
+#ifndef HOPSICKLE_H
+#define HOPSICKLE_H
+
+#include <stdbool.h>
+#include <stddef.h>
+#include <stdint.h>
+
+#ifdef __cplusplus
+extern "C" {
+#endif
+
+/* ---- limits */
+
+#define HOPSICKLE_MAX_ASDUS 8
+#define HOPSICKLE_MAX_CHANNELS 24
+#define HOPSICKLE_MAX_SAMPLES 192 /* of all ASDUs */
+#define HOPSICKLE_MAX_TEXT 127    /* octets of svID, and of datSet */
+#define HOPSICKLE_MAX_SECURITY 64 /* octets */
+#define HOPSICKLE_MAX_PDU 1492    /* octets of a written PDU, from its tag to its end */
+#define HOPSICKLE_MAX_FRAME 1518  /* octets of a written frame */
+#define HOPSICKLE_QUALITY_LIMIT 8192 /* a quality word is below this */
+
+/* ---- refusals */
+
+#define HOPSICKLE_ACCEPTED 0
+
+/* By the sender of a frame. The place is an octet's index from the first octet that was lent. */
+#define HOPSICKLE_ENDS_TOO_SOON 1        /* octets end too soon; where they are missing */
+#define HOPSICKLE_BAD_LENGTH 2           /* a length octet 80, or 84 to FF; its tag */
+#define HOPSICKLE_INTEGER_TOO_LONG 3     /* an integer too long; its first content octet */
+#define HOPSICKLE_TOO_LONG_TO_HOLD 4     /* noASDU above 8, or svID, datSet or security too long to hold;
+                                            its first content octet */
+#define HOPSICKLE_GM_IDENTITY_TOO_LONG 5 /* gmIdentity above 8 octets; its first content octet */
+#define HOPSICKLE_NOT_AS_WRITTEN 6       /* strict reading only: not what the writer writes; the first
+                                            octet that differs, or the shorter length, or 0 where the
+                                            writer refuses what was read */
+
+/* By the calling program, place 0. */
+#define HOPSICKLE_NO_ROOM 7           /* a lent buffer or array too short */
+#define HOPSICKLE_TOO_MANY_CHANNELS 8 /* more than 24 channels */
+
+/* By whoever describes a frame, place 0. */
+#define HOPSICKLE_BAD_DESCRIPTION 9   /* noASDU not 1 to 8, svID, datSet or security too long, EtherType not
+                                         88 BA, TPID not 81 00, a quality word of 2^13 or more, a mark that
+                                         is neither 0 nor 1, or a number beyond its field's width */
+#define HOPSICKLE_TOO_LONG_TO_WRITE 10  /* a PDU above 1,492 octets */
+#define HOPSICKLE_VALUE_OUT_OF_RANGE 11 /* a scaled value below -2^31 or above 2^31 */
+
+/* ---- places in the numbers. A mark is 1 where the field is there, else 0; reading puts 0 behind a
+ * mark of 0, and writing doesn't look there. */
+
+#define HOPSICKLE_TAGGED 0     /* mark: VLAN tag */
+#define HOPSICKLE_TPID 1       /* 0x8100 */
+#define HOPSICKLE_TCI 2
+#define HOPSICKLE_ETHER_TYPE 3 /* 0x88BA */
+#define HOPSICKLE_APPID 4
+#define HOPSICKLE_LENGTH 5     /* Length as read; writing doesn't look at it */
+#define HOPSICKLE_SIMULATION 6 /* 0 or 1 */
+#define HOPSICKLE_SECURITY 7   /* mark */
+#define HOPSICKLE_SECURITY_LENGTH 8
+#define HOPSICKLE_NO_ASDU 9    /* the number of ASDUs */
+#define HOPSICKLE_HEAD_NUMBERS 10
+#define HOPSICKLE_HEADER_NUMBERS 6 /* of them those of the header */
+
+/* The numbers of an ASDU, from its first: see HOPSICKLE_NUMBER. */
+#define HOPSICKLE_SV_ID_LENGTH 0
+#define HOPSICKLE_DAT_SET 1     /* mark */
+#define HOPSICKLE_DAT_SET_LENGTH 2
+#define HOPSICKLE_SMP_CNT 3     /* 16 bits */
+#define HOPSICKLE_CONF_REV 4    /* 32 bits */
+#define HOPSICKLE_REFR_TM 5     /* mark */
+#define HOPSICKLE_SMP_SYNCH 6   /* 8 bits */
+#define HOPSICKLE_SMP_RATE 7    /* mark */
+#define HOPSICKLE_SMP_RATE_VALUE 8 /* 16 bits */
+#define HOPSICKLE_SMP_MOD 9     /* mark */
+#define HOPSICKLE_SMP_MOD_VALUE 10 /* 16 bits */
+#define HOPSICKLE_GM_IDENTITY 11 /* mark */
+#define HOPSICKLE_ASDU_NUMBERS 12
+
+/* ---- places in the octets. After reading, octets past a field's length are zero, and so are those
+ * of a field that is absent; writing doesn't look at them. */
+
+#define HOPSICKLE_DST_ADDR 0 /* 6 octets */
+#define HOPSICKLE_SRC_ADDR 6 /* 6 octets */
+#define HOPSICKLE_SECURITY_OCTETS 12 /* 64 octets */
+#define HOPSICKLE_HEAD_OCTETS 76
+#define HOPSICKLE_HEADER_OCTETS 12 /* of them those of the header */
+
+/* The octets of an ASDU, from its first: see HOPSICKLE_OCTET. */
+#define HOPSICKLE_SV_ID_OCTETS 0        /* 127 octets */
+#define HOPSICKLE_DAT_SET_OCTETS 127    /* 127 octets */
+#define HOPSICKLE_REFR_TM_OCTETS 254    /* 8 octets */
+#define HOPSICKLE_GM_IDENTITY_OCTETS 262 /* 8 octets */
+#define HOPSICKLE_ASDU_OCTETS 270
+
+/* The place of a number, and of an octet, of ASDU i (from 0). */
+#define HOPSICKLE_NUMBER(i, place) (HOPSICKLE_HEAD_NUMBERS + (size_t)(i) * HOPSICKLE_ASDU_NUMBERS + (place))
+#define HOPSICKLE_OCTET(i, place) (HOPSICKLE_HEAD_OCTETS + (size_t)(i) * HOPSICKLE_ASDU_OCTETS + (place))
+
+/* Elements that are enough for every frame: of the numbers, and of the octets. Counts and quality
+ * words are enough with HOPSICKLE_MAX_SAMPLES. */
+#define HOPSICKLE_MAX_NUMBERS 106
+#define HOPSICKLE_MAX_OCTETS 2236
+
+/* ---- reading */
+
+/* Whether the EtherType is there and is that of sampled values, behind a VLAN tag or not. */
+bool hopsickle_is_smv(const uint8_t *frame, size_t frame_len);
+
+/*
+ * Reads the header of a frame: writes the numbers TAGGED to LENGTH (the first 6) and the two
+ * addresses (the first 12 octets). *place is the position after the header, 22, or 26 where there is
+ * a VLAN tag, which can lie past the end of the frame; where refused, the refusal's place.
+ * Refused: 1; then 7 where there is no room for 6 numbers and 12 octets.
+ */
+size_t hopsickle_header(const uint8_t *frame, size_t frame_len,
+                        uint32_t *numbers, size_t numbers_len,
+                        uint8_t *octets, size_t octets_len,
+                        size_t *place);
+
+/*
+ * Reads a frame whose samples are of so many channels; it doesn't test the EtherType. Writes
+ * 10 + 12 * noASDU numbers, 76 + 270 * noASDU octets, noASDU * channels counts and as many quality
+ * words, of which bits 13 to 31 are cleared; nothing past them. *place is the refusal's place, 0
+ * where accepted.
+ * Refused: 8; then 1 to 5 in the order of the frame; then 7.
+ */
+size_t hopsickle_read(const uint8_t *frame, size_t frame_len, size_t channels,
+                      uint32_t *numbers, size_t numbers_len,
+                      uint8_t *octets, size_t octets_len,
+                      int32_t *counts, size_t counts_len,
+                      uint32_t *qualities, size_t qualities_len,
+                      size_t *place);
+
+/*
+ * Reads a PDU from the octet at on, as hopsickle_read does after the header. The numbers and octets
+ * of the header are written 0, except the simulation mark, which is looked for where a frame that
+ * starts at octet 0 has it. Places count from octet 0.
+ * Refused: as hopsickle_read.
+ */
+size_t hopsickle_decode(const uint8_t *frame, size_t frame_len, size_t at, size_t channels,
+                        uint32_t *numbers, size_t numbers_len,
+                        uint8_t *octets, size_t octets_len,
+                        int32_t *counts, size_t counts_len,
+                        uint32_t *qualities, size_t qualities_len,
+                        size_t *place);
+
+/*
+ * Reads a frame strictly: as hopsickle_read, and accepted only if the frame is, from first to last
+ * octet, what hopsickle_write writes of what was read.
+ * Refused: 8; then 1 to 5 in the order of the frame; then 7; then 6.
+ */
+size_t hopsickle_read_strict(const uint8_t *frame, size_t frame_len, size_t channels,
+                             uint32_t *numbers, size_t numbers_len,
+                             uint8_t *octets, size_t octets_len,
+                             int32_t *counts, size_t counts_len,
+                             uint32_t *qualities, size_t qualities_len,
+                             size_t *place);
+
+/*
+ * The values of the counts of a reading of no_asdu ASDUs: each count as a float, times the scale
+ * factor of its channel. scales has one scale factor for each channel. Writes no_asdu * channels
+ * values; *written is how many, 0 where refused.
+ * Refused: 8; then 7 for counts or values.
+ */
+size_t hopsickle_values(const float *scales, size_t channels, uint16_t no_asdu,
+                        const int32_t *counts, size_t counts_len,
+                        float *values, size_t values_len,
+                        size_t *written);
+
+/* ---- writing */
+
+/*
+ * Writes the frame of a description with these counts and quality words. *size is the number of
+ * octets written, at most HOPSICKLE_MAX_FRAME, 0 where refused.
+ * Refused: 8; 7 where one of the four arrays is too short for noASDU; 9; 10; 7 for the frame.
+ */
+size_t hopsickle_write(const uint32_t *numbers, size_t numbers_len,
+                       const uint8_t *octets, size_t octets_len, size_t channels,
+                       const int32_t *counts, size_t counts_len,
+                       const uint32_t *qualities, size_t qualities_len,
+                       uint8_t *frame, size_t frame_len,
+                       size_t *size);
+
+/*
+ * The same with values: each is divided by the scale factor of its channel and rounded to the
+ * nearest whole number, halves away from zero. NaN becomes 0, and 2^31 becomes 2^31 - 1.
+ * Refused: 8; 7 where one of the four arrays is too short for noASDU; 9; 11; 10; 7 for the frame.
+ */
+size_t hopsickle_write_values(const uint32_t *numbers, size_t numbers_len,
+                              const uint8_t *octets, size_t octets_len,
+                              const float *scales, size_t channels,
+                              const float *values, size_t values_len,
+                              const uint32_t *qualities, size_t qualities_len,
+                              uint8_t *frame, size_t frame_len,
+                              size_t *size);
+
+/*
+ * *size is the number of octets that the writers write for a description, 0 where refused.
+ * Refused: 8; 7 where one of the two arrays is too short for noASDU; 9, quality words apart; 10.
+ */
+size_t hopsickle_size(const uint32_t *numbers, size_t numbers_len,
+                      const uint8_t *octets, size_t octets_len, size_t channels,
+                      size_t *size);
+
+#ifdef __cplusplus
+}
+#endif
+
+#endif
