@@ -6,6 +6,10 @@
  * below; its samples cross in two more, counts and quality words, ASDU by ASDU and channel by
  * channel: sample j of ASDU i stands at i * channels + j.
  *
+ * fixed is the form of the counters of every ASDU. true: smpCnt has two octets, confRev four and
+ * smpSynch one, always, highest octet first. false: the fewest octets whose first is below 80
+ * (hexadecimal), as every other integer of the frame. hopsickle_read and hopsickle_decode take both.
+ *
  * Every function answers 0 where it accepts, else the number of a refusal, and then the only thing
  * it has written is the place or the size. hopsickle_is_smv alone answers a bool.
  *
@@ -47,9 +51,9 @@ extern "C" {
 #define HOPSICKLE_TOO_LONG_TO_HOLD 4     /* noASDU above 8, or svID, datSet or security too long to hold;
                                             its first content octet */
 #define HOPSICKLE_GM_IDENTITY_TOO_LONG 5 /* gmIdentity above 8 octets; its first content octet */
-#define HOPSICKLE_NOT_AS_WRITTEN 6       /* strict reading only: not what the writer writes; the first
-                                            octet that differs, or the shorter length, or 0 where the
-                                            writer refuses what was read */
+#define HOPSICKLE_NOT_AS_WRITTEN 6       /* strict reading only: not what the writer writes in this form;
+                                            the first octet that differs, or the shorter length, or 0
+                                            where the writer refuses what was read */
 
 /* By the calling program, place 0. */
 #define HOPSICKLE_NO_ROOM 7           /* a lent buffer or array too short */
@@ -163,10 +167,10 @@ size_t hopsickle_decode(const uint8_t *frame, size_t frame_len, size_t at, size_
 
 /*
  * Reads a frame strictly: as hopsickle_read, and accepted only if the frame is, from first to last
- * octet, what hopsickle_write writes of what was read.
+ * octet, what hopsickle_write writes in this form of what was read.
  * Refused: 8; then 1 to 5 in the order of the frame; then 7; then 6.
  */
-size_t hopsickle_read_strict(const uint8_t *frame, size_t frame_len, size_t channels,
+size_t hopsickle_read_strict(const uint8_t *frame, size_t frame_len, size_t channels, bool fixed,
                              uint32_t *numbers, size_t numbers_len,
                              uint8_t *octets, size_t octets_len,
                              int32_t *counts, size_t counts_len,
@@ -187,12 +191,12 @@ size_t hopsickle_values(const float *scales, size_t channels, uint16_t no_asdu,
 /* ---- writing */
 
 /*
- * Writes the frame of a description with these counts and quality words. *size is the number of
- * octets written, at most HOPSICKLE_MAX_FRAME, 0 where refused.
+ * Writes the frame of a description with these counts and quality words, in this form. *size is the
+ * number of octets written, at most HOPSICKLE_MAX_FRAME, 0 where refused.
  * Refused: 8; 7 where one of the four arrays is too short for noASDU; 9; 10; 7 for the frame.
  */
 size_t hopsickle_write(const uint32_t *numbers, size_t numbers_len,
-                       const uint8_t *octets, size_t octets_len, size_t channels,
+                       const uint8_t *octets, size_t octets_len, size_t channels, bool fixed,
                        const int32_t *counts, size_t counts_len,
                        const uint32_t *qualities, size_t qualities_len,
                        uint8_t *frame, size_t frame_len,
@@ -205,18 +209,19 @@ size_t hopsickle_write(const uint32_t *numbers, size_t numbers_len,
  */
 size_t hopsickle_write_values(const uint32_t *numbers, size_t numbers_len,
                               const uint8_t *octets, size_t octets_len,
-                              const float *scales, size_t channels,
+                              const float *scales, size_t channels, bool fixed,
                               const float *values, size_t values_len,
                               const uint32_t *qualities, size_t qualities_len,
                               uint8_t *frame, size_t frame_len,
                               size_t *size);
 
 /*
- * *size is the number of octets that the writers write for a description, 0 where refused.
+ * *size is the number of octets that the writers write for a description in this form, 0 where
+ * refused.
  * Refused: 8; 7 where one of the two arrays is too short for noASDU; 9, quality words apart; 10.
  */
 size_t hopsickle_size(const uint32_t *numbers, size_t numbers_len,
-                      const uint8_t *octets, size_t octets_len, size_t channels,
+                      const uint8_t *octets, size_t octets_len, size_t channels, bool fixed,
                       size_t *size);
 
 #ifdef __cplusplus

@@ -1,7 +1,7 @@
 //! The calls that are measured, each over the frames of a case again and again.
 
 use crate::case::{Case, Flat, FRAMES};
-use hopsickle::sys;
+use hopsickle::{sys, Form};
 use oracle::original::{decode_smv, encode_smv, ethernet_header};
 use oracle::types as theirs;
 use std::hint::black_box;
@@ -44,47 +44,49 @@ pub fn original_writing(case: &Case) -> Call<'_> {
 
 // ---- the flat functions, into arrays that are not cleared between calls
 
-fn read(call: sys::Read, case: &Case, i: usize, to: &mut Flat) {
-    let frame = black_box(&case.frames[i % FRAMES].frame[..]);
+/// Reads a frame: the ordinary way, or strictly, shortest or fixed.
+fn read(strict: Option<bool>, case: &Case, i: usize, to: &mut Flat) {
+    let one = &case.frames[i % FRAMES];
+    let frame = black_box(if strict == Some(true) { &one.fixed[..] } else { &one.frame[..] });
     let mut place = 0;
-    // SAFETY: each pointer is that of a slice or array of as many elements as are named after it.
-    let number = unsafe {
-        call(
-            frame.as_ptr(),
-            frame.len(),
-            case.shape.channels,
-            to.numbers.as_mut_ptr(),
-            to.numbers.len(),
-            to.octets.as_mut_ptr(),
-            to.octets.len(),
-            to.counts.as_mut_ptr(),
-            to.counts.len(),
-            to.qualities.as_mut_ptr(),
-            to.qualities.len(),
-            &mut place,
-        )
-    };
+    let Flat { numbers, octets, counts, qualities, .. } = &mut *to;
+    let number = sys::read(
+        strict,
+        frame,
+        case.shape.channels,
+        numbers,
+        octets,
+        counts,
+        qualities,
+        &mut place,
+    );
     assert_eq!(number, 0);
     black_box(to);
 }
 
 pub fn flat_reading(case: &Case) -> Call<'_> {
     let mut to = Flat::new();
-    Box::new(move |n| (0..n).for_each(|i| read(sys::hopsickle_read, case, i, &mut to)))
+    Box::new(move |n| (0..n).for_each(|i| read(None, case, i, &mut to)))
 }
 
 pub fn flat_strict(case: &Case) -> Call<'_> {
     let mut to = Flat::new();
-    Box::new(move |n| (0..n).for_each(|i| read(sys::hopsickle_read_strict, case, i, &mut to)))
+    Box::new(move |n| (0..n).for_each(|i| read(Some(false), case, i, &mut to)))
+}
+
+pub fn flat_strict_fixed(case: &Case) -> Call<'_> {
+    let mut to = Flat::new();
+    Box::new(move |n| (0..n).for_each(|i| read(Some(true), case, i, &mut to)))
 }
 
 pub fn flat_reading_values(case: &Case) -> Call<'_> {
     let mut to = Flat::new();
     Box::new(move |n| {
         for i in 0..n {
-            read(sys::hopsickle_read, case, i, &mut to);
+            read(None, case, i, &mut to);
             let mut written = 0;
-            // SAFETY: as in `read`.
+            // SAFETY: each pointer is that of a slice or array of as many elements as are named after
+            // it.
             let number = unsafe {
                 sys::hopsickle_values(
                     case.scales.as_ptr(),
@@ -103,33 +105,39 @@ pub fn flat_reading_values(case: &Case) -> Call<'_> {
     })
 }
 
+fn write(fixed: bool, case: &Case, i: usize, frame: &mut [u8]) {
+    let flat = black_box(&case.frames[i % FRAMES].flat);
+    let mut size = 0;
+    // SAFETY: as in `flat_reading_values`.
+    let number = unsafe {
+        sys::hopsickle_write(
+            flat.numbers.as_ptr(),
+            flat.numbers.len(),
+            flat.octets.as_ptr(),
+            flat.octets.len(),
+            case.shape.channels,
+            fixed,
+            flat.counts.as_ptr(),
+            flat.counts.len(),
+            flat.qualities.as_ptr(),
+            flat.qualities.len(),
+            frame.as_mut_ptr(),
+            frame.len(),
+            &mut size,
+        )
+    };
+    assert_eq!(number, 0);
+    black_box((frame, size));
+}
+
 pub fn flat_writing(case: &Case) -> Call<'_> {
     let mut frame = [0; sys::MAX_FRAME];
-    Box::new(move |n| {
-        for i in 0..n {
-            let flat = black_box(&case.frames[i % FRAMES].flat);
-            let mut size = 0;
-            // SAFETY: as in `read`.
-            let number = unsafe {
-                sys::hopsickle_write(
-                    flat.numbers.as_ptr(),
-                    flat.numbers.len(),
-                    flat.octets.as_ptr(),
-                    flat.octets.len(),
-                    case.shape.channels,
-                    flat.counts.as_ptr(),
-                    flat.counts.len(),
-                    flat.qualities.as_ptr(),
-                    flat.qualities.len(),
-                    frame.as_mut_ptr(),
-                    frame.len(),
-                    &mut size,
-                )
-            };
-            assert_eq!(number, 0);
-            black_box((&mut frame, size));
-        }
-    })
+    Box::new(move |n| (0..n).for_each(|i| write(false, case, i, &mut frame)))
+}
+
+pub fn flat_writing_fixed(case: &Case) -> Call<'_> {
+    let mut frame = [0; sys::MAX_FRAME];
+    Box::new(move |n| (0..n).for_each(|i| write(true, case, i, &mut frame)))
 }
 
 pub fn flat_writing_values(case: &Case) -> Call<'_> {
@@ -138,7 +146,7 @@ pub fn flat_writing_values(case: &Case) -> Call<'_> {
         for i in 0..n {
             let flat = black_box(&case.frames[i % FRAMES].flat);
             let mut size = 0;
-            // SAFETY: as in `read`.
+            // SAFETY: as in `flat_reading_values`.
             let number = unsafe {
                 sys::hopsickle_write_values(
                     flat.numbers.as_ptr(),
@@ -147,6 +155,7 @@ pub fn flat_writing_values(case: &Case) -> Call<'_> {
                     flat.octets.len(),
                     case.scales.as_ptr(),
                     case.scales.len(),
+                    false,
                     flat.values.as_ptr(),
                     flat.values.len(),
                     flat.qualities.as_ptr(),
@@ -181,7 +190,7 @@ pub fn rust_strict(case: &Case) -> Call<'_> {
     Box::new(move |n| {
         for i in 0..n {
             let frame = black_box(&case.frames[i % FRAMES].frame[..]);
-            read.read_strict(frame, black_box(&case.config)).expect("a frame");
+            read.read_strict(frame, black_box(&case.config), Form::Shortest).expect("a frame");
             black_box((read.header(), read.pdu()));
         }
     })
@@ -191,7 +200,9 @@ pub fn rust_writing(case: &Case) -> Call<'_> {
     Box::new(|n| {
         for i in 0..n {
             let one = black_box(&case.frames[i % FRAMES]);
-            black_box(hopsickle::encode_counts(&one.header, &one.pdu, &one.counts).is_ok());
+            let frame =
+                hopsickle::encode_counts(&one.header, &one.pdu, &one.counts, Form::Shortest);
+            black_box(frame.is_ok());
         }
     })
 }

@@ -2,7 +2,7 @@
 
 use hopsickle::sys;
 use hopsickle::{
-    EthernetHeader, Quality, Sample, SavAsdu, SavDataSetConfig, SavPdu, SavValueConfig,
+    EthernetHeader, Form, Quality, Sample, SavAsdu, SavDataSetConfig, SavPdu, SavValueConfig,
 };
 use oracle::generate::Random;
 use oracle::{original, types as theirs};
@@ -38,9 +38,11 @@ impl Flat {
     }
 }
 
-/// One frame in every form.
+/// One frame as octets, with its counters in the shortest form and in the fixed one, and as each
+/// side's description.
 pub struct One {
     pub frame: Vec<u8>,
+    pub fixed: Vec<u8>,
     pub flat: Flat,
     pub counts: Vec<i32>,
     pub header: EthernetHeader,
@@ -117,27 +119,21 @@ fn one(
     let counts: Vec<i32> = (0..shape.asdus * shape.channels)
         .map(|_| random.below(1 << 22) as i32 - (1 << 21))
         .collect();
-    let frame = hopsickle::encode_counts(&header, &pdu, &counts).ok()?;
-    let read = hopsickle::read_strict(&frame, config).expect("what was written");
+    let frame = hopsickle::encode_counts(&header, &pdu, &counts, Form::Shortest).ok()?;
+    let fixed = hopsickle::encode_counts(&header, &pdu, &counts, Form::Fixed).ok()?;
+    let read = hopsickle::read_strict(&frame, config, Form::Shortest).expect("what was written");
     let mut flat = Flat::new();
     let mut place = 0;
-    // SAFETY: each pointer is that of a slice or array of as many elements as are named after it.
-    let number = unsafe {
-        sys::hopsickle_read(
-            frame.as_ptr(),
-            frame.len(),
-            shape.channels,
-            flat.numbers.as_mut_ptr(),
-            flat.numbers.len(),
-            flat.octets.as_mut_ptr(),
-            flat.octets.len(),
-            flat.counts.as_mut_ptr(),
-            flat.counts.len(),
-            flat.qualities.as_mut_ptr(),
-            flat.qualities.len(),
-            &mut place,
-        )
-    };
+    let number = sys::read(
+        None,
+        &frame,
+        shape.channels,
+        &mut flat.numbers,
+        &mut flat.octets,
+        &mut flat.counts,
+        &mut flat.qualities,
+        &mut place,
+    );
     assert_eq!(number, 0);
     flat.values[..counts.len()].copy_from_slice(read.values());
     let mut their_header = theirs::EthernetHeader::default();
@@ -147,5 +143,5 @@ fn one(
     assert_eq!(written, frame);
     assert_eq!(hopsickle::encode_smv(&read.header(), &read.pdu()).ok()?, frame);
     let (header, pdu) = (read.header(), read.pdu());
-    Some(One { frame, flat, counts, header, pdu, their_header, their_pdu })
+    Some(One { frame, fixed, flat, counts, header, pdu, their_header, their_pdu })
 }

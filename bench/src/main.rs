@@ -19,7 +19,7 @@ struct Comparison {
     project: Make,
 }
 
-const COMPARISONS: [Comparison; 9] = [
+const COMPARISONS: [Comparison; 11] = [
     Comparison {
         name: "Reading: the original's records with values; hopsickle_read, all arrays",
         original: calls::original_reading,
@@ -36,9 +36,19 @@ const COMPARISONS: [Comparison; 9] = [
         project: calls::flat_strict,
     },
     Comparison {
+        name: "Strict reading, fixed form: the same; hopsickle_read_strict",
+        original: calls::original_strict,
+        project: calls::flat_strict_fixed,
+    },
+    Comparison {
         name: "Writing: encode_smv, which takes values; hopsickle_write, of counts",
         original: calls::original_writing,
         project: calls::flat_writing,
+    },
+    Comparison {
+        name: "Writing, fixed form: the same, which has the shortest; hopsickle_write",
+        original: calls::original_writing,
+        project: calls::flat_writing_fixed,
     },
     Comparison {
         name: "Writing values: encode_smv; hopsickle_write_values",

@@ -1,4 +1,4 @@
-/* Writes a 9-2LE frame of one ASDU, reads it strictly, and prints its readings. */
+/* Writes a 9-2LE frame of one ASDU in both forms, reads the fixed one strictly, and prints its readings. */
 #include <stdio.h>
 #include <string.h>
 
@@ -21,8 +21,8 @@ static int refused(const char *call, size_t number, size_t place)
     return 1;
 }
 
-/* The frame's octets; the answer is the refusal's number. */
-static size_t write_frame(uint8_t *frame, size_t frame_len, size_t *size)
+/* The frame's octets in a form; the answer is the refusal's number. */
+static size_t write_frame(bool fixed, uint8_t *frame, size_t frame_len, size_t *size)
 {
     uint32_t numbers[HOPSICKLE_MAX_NUMBERS] = {0};
     uint8_t octets[HOPSICKLE_MAX_OCTETS] = {0};
@@ -40,7 +40,7 @@ static size_t write_frame(uint8_t *frame, size_t frame_len, size_t *size)
     memcpy(octets + HOPSICKLE_DST_ADDR, addresses, sizeof addresses);
     memcpy(octets + HOPSICKLE_OCTET(0, HOPSICKLE_SV_ID_OCTETS), sv_id, sizeof sv_id - 1);
     return hopsickle_write(numbers, HOPSICKLE_MAX_NUMBERS, octets, HOPSICKLE_MAX_OCTETS, CHANNELS,
-                           sent, CHANNELS, words, CHANNELS, frame, frame_len, size);
+                           fixed, sent, CHANNELS, words, CHANNELS, frame, frame_len, size);
 }
 
 int main(void)
@@ -53,12 +53,16 @@ int main(void)
     float values[HOPSICKLE_MAX_SAMPLES];
     size_t number, size, place, written, i, j;
 
-    number = write_frame(frame, sizeof frame, &size);
+    number = write_frame(false, frame, sizeof frame, &size);
     if (number != HOPSICKLE_ACCEPTED)
         return refused("hopsickle_write", number, 0);
-    printf("%lu octets\n", (unsigned long)size);
+    printf("%lu octets in the shortest form\n", (unsigned long)size);
+    number = write_frame(true, frame, sizeof frame, &size);
+    if (number != HOPSICKLE_ACCEPTED)
+        return refused("hopsickle_write", number, 0);
+    printf("%lu octets in the fixed form\n", (unsigned long)size);
 
-    number = hopsickle_read_strict(frame, size, CHANNELS, numbers, HOPSICKLE_MAX_NUMBERS,
+    number = hopsickle_read_strict(frame, size, CHANNELS, true, numbers, HOPSICKLE_MAX_NUMBERS,
                                    octets, HOPSICKLE_MAX_OCTETS, counts, HOPSICKLE_MAX_SAMPLES,
                                    qualities, HOPSICKLE_MAX_SAMPLES, &place);
     if (number != HOPSICKLE_ACCEPTED)

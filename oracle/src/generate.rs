@@ -1,6 +1,6 @@
 //! Random requests over all kinds and classes of input. The same seed gives the same requests.
 
-use crate::frame::{frame, header_size, length_octets, plain, Element, Field, Piece};
+use crate::frame::{fix, frame, header_size, length_octets, plain, Element, Field, Piece};
 use crate::layout::{asked, bits, described, Asdu, Header, Pdu, Sample};
 
 /// SplitMix64.
@@ -363,7 +363,13 @@ fn made(random: &mut Random) -> Made {
     if class == "other noASDU" {
         pdu.no_asdu = random.pick(&[0, 1, 2, 3, 8, 9, 128, 255, 256, 32_768, 65_535]);
     }
-    let mut piece = frame(&header, &pdu, &mut |element| alter(class, random, element));
+    let fixed = random.percent(40);
+    let mut piece = frame(&header, &pdu, &mut |element| {
+        if fixed {
+            fix(element);
+        }
+        alter(class, random, element);
+    });
     damage(class, random, &mut piece);
     let channels = match class {
         "other channel number" => random.among(0, 26),

@@ -3,7 +3,7 @@
 
 use crate::types::{EthernetHeader, Quality, Sample as Value, SavAsdu, SavPdu};
 
-#[derive(Clone, Default)]
+#[derive(Clone, Debug, Default, PartialEq)]
 pub struct Header {
     pub destination: [u8; 6],
     pub source: [u8; 6],
@@ -16,7 +16,7 @@ pub struct Header {
     pub length: [u8; 2],
 }
 
-#[derive(Clone, Default)]
+#[derive(Clone, Debug, Default, PartialEq)]
 pub struct Pdu {
     pub simulation: bool,
     pub no_asdu: u16,
@@ -24,7 +24,7 @@ pub struct Pdu {
     pub asdus: Vec<Asdu>,
 }
 
-#[derive(Clone, Default)]
+#[derive(Clone, Debug, Default, PartialEq)]
 pub struct Asdu {
     pub sv_id: Vec<u8>,
     pub dat_set: Option<Vec<u8>>,
@@ -40,7 +40,7 @@ pub struct Asdu {
 
 /// Bits of an f32 value, bits of its f32 scale factor, and the quality word. Where a sample goes
 /// into a frame (frame.rs), `value` is the count.
-#[derive(Clone, Copy, Default)]
+#[derive(Clone, Copy, Debug, Default, PartialEq)]
 pub struct Sample {
     pub value: u32,
     pub scale: u32,

@@ -4,7 +4,7 @@
 use crate::cases::{
     self, floats, frame_asdu, frame_header, one_channel, pdu_of, read_u16, write_u16, FRAME,
 };
-use crate::frame::{self, frame, header_size, plain, Element, Field};
+use crate::frame::{self, fixed, frame, header_size, plain, Element, Field};
 use crate::generate::{
     self, Random, COUNTS, FIRST_LENGTH_OCTETS, LENGTHS, SCALES, U16S, U32S, VALUES,
 };
@@ -58,6 +58,7 @@ pub fn requests() -> Vec<(u8, Vec<u8>)> {
     texts(&mut list);
     ends(&mut list);
     starts(&mut list);
+    fixed_form(&mut list);
     writing(&mut list);
     random(&mut list);
     list.requests
@@ -466,11 +467,11 @@ fn sizes(list: &mut List) {
     let samples = (0..8).map(|k| Sample { value: 1000 * k, ..Sample::default() }).collect();
     let pdu = pdu_of(vec![Asdu { samples, ..one_asdu() }]);
     list.add(b'f', asked(&le_92, &plain(&frame_header(), &pdu).octets));
-    eight_by_eight(list);
+    list.both(&tagged(), &eight_by_eight());
 }
 
-/// A tagged frame of eight ASDUs of eight channels with every optional field.
-fn eight_by_eight(list: &mut List) {
+/// Eight ASDUs of eight channels with every optional field.
+fn eight_by_eight() -> Pdu {
     let asdus = (0..8u16).map(|number| Asdu {
         sv_id: format!("MU{number}").into_bytes(),
         smp_cnt: 3996 + number,
@@ -484,7 +485,7 @@ fn eight_by_eight(list: &mut List) {
         ..full_asdu()
     });
     let security = Some(vec![0x5e; 16]);
-    list.both(&tagged(), &Pdu { simulation: true, security, ..pdu_of(asdus.collect()) });
+    Pdu { simulation: true, security, ..pdu_of(asdus.collect()) }
 }
 
 fn texts(list: &mut List) {
@@ -582,6 +583,37 @@ fn starts(list: &mut List) {
         octets.resize(length, 0xff);
         list.add(b'p', started(0, &octets));
     }
+}
+
+// ---- counters in the fixed form ----
+
+fn fixed_form(list: &mut List) {
+    let short = fixed(&frame_header(), &pdu_of(vec![one_asdu()])).octets;
+    for length in 0..=short.len() {
+        list.frame(&short[..length]);
+    }
+    for end in [&[0x00][..], &[0x88, 0x01, 0x05], &[0x89, 0x09]] {
+        list.frame(&[&short[..], end].concat());
+    }
+    let mut counters = |smp_cnt, conf_rev, smp_synch| {
+        let asdu = Asdu { smp_cnt, conf_rev, smp_synch, ..one_asdu() };
+        list.frame(&fixed(&frame_header(), &pdu_of(vec![asdu])).octets);
+    };
+    U16S.into_iter().for_each(|smp_cnt| counters(smp_cnt, 1, 2));
+    U32S.into_iter().for_each(|conf_rev| counters(5, conf_rev, 2));
+    [0, 1, 127, 128, 255].into_iter().for_each(|smp_synch| counters(5, 1, smp_synch));
+    // The same octets in both forms, and in one ASDU of two.
+    counters(128, 8_388_608, 127);
+    counters(32_767, 0x7fff_ffff, 0);
+    let same = Asdu { smp_cnt: 4000, conf_rev: 0x0100_0000, ..one_asdu() };
+    list.frame(&fixed(&tagged(), &pdu_of(vec![same, one_asdu()])).octets);
+    for mask in 0..64 {
+        let header = if mask % 2 == 0 { frame_header() } else { tagged() };
+        list.frame(&fixed(&header, &some_fields(mask)).octets);
+    }
+    list.add(b'f', asked(&[1.0; 8], &fixed(&tagged(), &eight_by_eight()).octets));
+    let long = Asdu { sv_id: vec![b'x'; 127], dat_set: Some(vec![b'y'; 127]), ..one_asdu() };
+    list.frame(&fixed(&frame_header(), &pdu_of(vec![long])).octets);
 }
 
 // ---- writing ----

@@ -2,7 +2,7 @@
 
 use crate::sys::*;
 use crate::types::{EthernetHeader, Quality, Sample, SavAsdu, SavDataSetConfig, SavPdu};
-use crate::Refusal;
+use crate::{Form, Refusal};
 use std::cell::RefCell;
 use std::ops::Range;
 
@@ -67,39 +67,37 @@ pub(crate) fn with_scratch<T>(work: impl FnOnce(&mut Scratch) -> T) -> T {
 impl Frame {
     /// Reads a frame of this data set the ordinary way. A refusal leaves what was read before.
     pub fn read(&mut self, frame: &[u8], config: &SavDataSetConfig) -> Result<(), Refusal> {
-        self.read_by(hopsickle_read, frame, config)
+        self.read_as(None, frame, config)
     }
 
-    /// Reads a frame of this data set strictly: only what the writer writes is accepted.
-    pub fn read_strict(&mut self, frame: &[u8], config: &SavDataSetConfig) -> Result<(), Refusal> {
-        self.read_by(hopsickle_read_strict, frame, config)
-    }
-
-    fn read_by(
+    /// Reads a frame of this data set strictly: only what the writer writes in this form is
+    /// accepted.
+    pub fn read_strict(
         &mut self,
-        call: Read,
+        frame: &[u8],
+        config: &SavDataSetConfig,
+        form: Form,
+    ) -> Result<(), Refusal> {
+        self.read_as(Some(form), frame, config)
+    }
+
+    fn read_as(
+        &mut self,
+        strict: Option<Form>,
         frame: &[u8],
         data: &SavDataSetConfig,
     ) -> Result<(), Refusal> {
         let mut place = 0;
-        // SAFETY: every pointer is that of a slice or array of as many elements as are named after
-        // it, those to be written are borrowed exclusively, and `place` is a local.
-        let number = unsafe {
-            call(
-                frame.as_ptr(),
-                frame.len(),
-                data.config.len(),
-                self.numbers.as_mut_ptr(),
-                self.numbers.len(),
-                self.octets.as_mut_ptr(),
-                self.octets.len(),
-                self.counts.as_mut_ptr(),
-                self.counts.len(),
-                self.qualities.as_mut_ptr(),
-                self.qualities.len(),
-                &mut place,
-            )
-        };
+        let number = read(
+            strict.map(Form::is_fixed),
+            frame,
+            data.config.len(),
+            &mut self.numbers,
+            &mut self.octets,
+            &mut self.counts,
+            &mut self.qualities,
+            &mut place,
+        );
         Refusal::check(number, place)?;
         self.scale(data)
     }
@@ -112,7 +110,8 @@ impl Frame {
         data: &SavDataSetConfig,
     ) -> Result<(), Refusal> {
         let mut place = 0;
-        // SAFETY: as in `read_by`.
+        // SAFETY: every pointer is that of a slice or array of as many elements as are named after
+        // it, those to be written are borrowed exclusively, and `place` is a local.
         let number = unsafe {
             hopsickle_decode(
                 buffer.as_ptr(),
@@ -141,7 +140,7 @@ impl Frame {
             *scale = channel.scale_factor;
         }
         let mut written = 0;
-        // SAFETY: as in `read_by`; what was read has at most 24 channels, and so many scale factors
+        // SAFETY: as in `decode`; what was read has at most 24 channels, and so many scale factors
         // are there.
         let number = unsafe {
             hopsickle_values(
@@ -331,7 +330,12 @@ impl Frame {
     }
 
     /// Writes the frame of what was read or described, with these counts: how many octets.
-    pub(crate) fn write_counts(&self, counts: &[i32], frame: &mut [u8]) -> Result<usize, Refusal> {
+    pub(crate) fn write_counts(
+        &self,
+        counts: &[i32],
+        form: Form,
+        frame: &mut [u8],
+    ) -> Result<usize, Refusal> {
         let mut size = 0;
         // SAFETY: every pointer is that of a slice or array of as many elements as are named after
         // it, the frame is borrowed exclusively, and `size` is a local.
@@ -342,6 +346,7 @@ impl Frame {
                 self.octets.as_ptr(),
                 self.octets.len(),
                 self.channels,
+                form.is_fixed(),
                 counts.as_ptr(),
                 counts.len(),
                 self.qualities.as_ptr(),
@@ -355,13 +360,13 @@ impl Frame {
     }
 
     /// Writes the frame of what was read again: how many octets. Equal to what was read, where that
-    /// was strictly.
-    pub fn write(&self, frame: &mut [u8]) -> Result<usize, Refusal> {
-        self.write_counts(&self.counts, frame)
+    /// was strictly and in the same form.
+    pub fn write(&self, form: Form, frame: &mut [u8]) -> Result<usize, Refusal> {
+        self.write_counts(&self.counts, form, frame)
     }
 
     /// Writes the frame of what was described, with its values.
-    pub(crate) fn write_values(&self, frame: &mut [u8]) -> Result<usize, Refusal> {
+    pub(crate) fn write_values(&self, form: Form, frame: &mut [u8]) -> Result<usize, Refusal> {
         let mut size = 0;
         // SAFETY: as in `write_counts`; there are at least as many scale factors as channels.
         let number = unsafe {
@@ -372,6 +377,7 @@ impl Frame {
                 self.octets.len(),
                 self.scales.as_ptr(),
                 self.channels,
+                form.is_fixed(),
                 self.values.as_ptr(),
                 self.values.len(),
                 self.qualities.as_ptr(),
@@ -385,7 +391,7 @@ impl Frame {
     }
 
     /// How many octets the writers write.
-    pub(crate) fn size(&self) -> Result<usize, Refusal> {
+    pub(crate) fn size(&self, form: Form) -> Result<usize, Refusal> {
         let mut size = 0;
         // SAFETY: as in `write_counts`.
         let number = unsafe {
@@ -395,6 +401,7 @@ impl Frame {
                 self.octets.as_ptr(),
                 self.octets.len(),
                 self.channels,
+                form.is_fixed(),
                 &mut size,
             )
         };

@@ -5,22 +5,24 @@
 //! import. What it panics on is an error here. README.md lists what differs, and why.
 //!
 //! ```no_run
-//! use hopsickle::{read_strict, SavDataSetConfig};
+//! use hopsickle::{read_strict, Form, SavDataSetConfig};
 //!
 //! # fn main() -> Result<(), Box<dyn std::error::Error>> {
 //! let octets = std::fs::read("frame")?;
-//! let frame = read_strict(&octets, &SavDataSetConfig::le_92())?;
+//! let frame = read_strict(&octets, &SavDataSetConfig::le_92(), Form::Fixed)?;
 //! println!("{:?} {:?}", frame.sv_id(0), frame.values());
 //! # Ok(())
 //! # }
 //! ```
 
+mod form;
 mod frame;
 mod refusal;
 pub mod rt_services;
 pub mod sys;
 pub mod types;
 
+pub use form::Form;
 pub use frame::Frame;
 pub use refusal::Refusal;
 pub use rt_services::*;

@@ -5,7 +5,7 @@ use crate::sys;
 use crate::types::{
     DecodeError, EncodeError, EthernetHeader, SavAsdu, SavDataSetConfig, SavPdu, SavValueConfig,
 };
-use crate::Refusal;
+use crate::{Form, Refusal};
 
 // ---- the original's
 
@@ -52,9 +52,9 @@ pub fn decode_smv(
     })
 }
 
-/// Writes a frame. Each value is divided by its own scale factor.
+/// Writes a frame in the shortest form. Each value is divided by its own scale factor.
 pub fn encode_smv(header: &EthernetHeader, pdu: &SavPdu) -> Result<Vec<u8>, EncodeError> {
-    Ok(encode_values(header, pdu)?)
+    Ok(encode_values(header, pdu, Form::Shortest)?)
 }
 
 // ---- added
@@ -67,42 +67,48 @@ pub fn read_frame(frame: &[u8], config: &SavDataSetConfig) -> Result<Frame, Refu
 }
 
 /// Reads a frame of this data set, and refuses it as 6 unless it is, from first to last octet, what
-/// the writer writes of what was read.
-pub fn read_strict(frame: &[u8], config: &SavDataSetConfig) -> Result<Frame, Refusal> {
+/// the writer writes of what was read, in this form.
+pub fn read_strict(frame: &[u8], config: &SavDataSetConfig, form: Form) -> Result<Frame, Refusal> {
     let mut read = Frame::default();
-    read.read_strict(frame, config)?;
+    read.read_strict(frame, config, form)?;
     Ok(read)
 }
 
-/// How many octets [`encode_smv`] writes, whatever the values.
-pub fn smv_size(header: &EthernetHeader, pdu: &SavPdu) -> Result<usize, Refusal> {
+/// How many octets the writers write in this form, whatever the values or counts.
+pub fn smv_size(header: &EthernetHeader, pdu: &SavPdu, form: Form) -> Result<usize, Refusal> {
     with_scratch(|(described, _)| {
         described.describe(header, pdu)?;
-        described.size()
+        described.size(form)
     })
 }
 
-/// Writes a frame with these counts, ASDU by ASDU and channel by channel. Of the PDU's samples it
-/// takes the quality alone.
+/// Writes a frame in this form with these counts, ASDU by ASDU and channel by channel. Of the PDU's
+/// samples it takes the quality alone.
 pub fn encode_counts(
     header: &EthernetHeader,
     pdu: &SavPdu,
     counts: &[i32],
+    form: Form,
 ) -> Result<Vec<u8>, Refusal> {
     with_scratch(|(described, frame)| {
         described.describe(header, pdu)?;
-        let size = described.write_counts(counts, frame)?;
+        let size = described.write_counts(counts, form, frame)?;
         Ok(frame[..size].to_vec())
     })
 }
 
-fn encode_values(header: &EthernetHeader, pdu: &SavPdu) -> Result<Vec<u8>, Refusal> {
+/// Writes a frame in this form. Each value is divided by its own scale factor.
+pub fn encode_values(
+    header: &EthernetHeader,
+    pdu: &SavPdu,
+    form: Form,
+) -> Result<Vec<u8>, Refusal> {
     with_scratch(|(described, frame)| {
         described.describe(header, pdu)?;
         let size = if is_one_data_set(pdu) {
-            described.write_values(frame)?
+            described.write_values(form, frame)?
         } else {
-            described.write_counts(&counts_of_all(described, pdu)?, frame)?
+            described.write_counts(&counts_of_all(described, pdu)?, form, frame)?
         };
         Ok(frame[..size].to_vec())
     })
@@ -112,7 +118,7 @@ fn encode_values(header: &EthernetHeader, pdu: &SavPdu) -> Result<Vec<u8>, Refus
 /// the library's writer of values.
 fn counts_of_all(described: &Frame, pdu: &SavPdu) -> Result<Vec<i32>, Refusal> {
     // Of the description, 8 and 9 come before the values' 11, and 10 after.
-    match described.size() {
+    match described.size(Form::Shortest) {
         Err(refusal) if refusal.number != Refusal::TOO_LONG_TO_WRITE => return Err(refusal),
         _ => {}
     }
@@ -134,7 +140,7 @@ fn counts_of(asdu: &SavAsdu) -> Result<Vec<i32>, Refusal> {
     let header = EthernetHeader { ether_type: [0x88, 0xba], ..EthernetHeader::default() };
     let alone = SavAsdu { all_data: asdu.all_data.clone(), ..SavAsdu::default() };
     let pdu = SavPdu { no_asdu: 1, sav_asdu: vec![alone], ..SavPdu::default() };
-    let frame = encode_values(&header, &pdu)?;
+    let frame = encode_values(&header, &pdu, Form::Shortest)?;
     let data = asdu.all_data.iter().map(|sample| SavValueConfig::new(sample.scale_factor));
     Ok(read_frame(&frame, &SavDataSetConfig::new(data.collect()))?.counts().to_vec())
 }

@@ -1,21 +1,5 @@
-//! The functions of libhopsickle.a, as include/hopsickle.h declares and describes them, and the
-//! places of a description in its arrays.
-
-/// `hopsickle_read` and `hopsickle_read_strict`.
-pub type Read = unsafe extern "C" fn(
-    frame: *const u8,
-    frame_len: usize,
-    channels: usize,
-    numbers: *mut u32,
-    numbers_len: usize,
-    octets: *mut u8,
-    octets_len: usize,
-    counts: *mut i32,
-    counts_len: usize,
-    qualities: *mut u32,
-    qualities_len: usize,
-    place: *mut usize,
-) -> usize;
+//! The functions of libhopsickle.a, as include/hopsickle.h declares and describes them, the frame
+//! readers over slices, and the places of a description in its arrays.
 
 extern "C" {
     pub fn hopsickle_is_smv(frame: *const u8, frame_len: usize) -> bool;
@@ -65,6 +49,7 @@ extern "C" {
         frame: *const u8,
         frame_len: usize,
         channels: usize,
+        fixed: bool,
         numbers: *mut u32,
         numbers_len: usize,
         octets: *mut u8,
@@ -93,6 +78,7 @@ extern "C" {
         octets: *const u8,
         octets_len: usize,
         channels: usize,
+        fixed: bool,
         counts: *const i32,
         counts_len: usize,
         qualities: *const u32,
@@ -109,6 +95,7 @@ extern "C" {
         octets_len: usize,
         scales: *const f32,
         channels: usize,
+        fixed: bool,
         values: *const f32,
         values_len: usize,
         qualities: *const u32,
@@ -124,8 +111,41 @@ extern "C" {
         octets: *const u8,
         octets_len: usize,
         channels: usize,
+        fixed: bool,
         size: *mut usize,
     ) -> usize;
+}
+
+/// `hopsickle_read`, or, where `strict` is the form, `hopsickle_read_strict`, over slices.
+#[inline]
+#[allow(clippy::too_many_arguments)]
+pub fn read(
+    strict: Option<bool>,
+    frame: &[u8],
+    channels: usize,
+    numbers: &mut [u32],
+    octets: &mut [u8],
+    counts: &mut [i32],
+    qualities: &mut [u32],
+    place: &mut usize,
+) -> usize {
+    let (s, s_len) = (frame.as_ptr(), frame.len());
+    let (n, n_len) = (numbers.as_mut_ptr(), numbers.len());
+    let (o, o_len) = (octets.as_mut_ptr(), octets.len());
+    let (c, c_len) = (counts.as_mut_ptr(), counts.len());
+    let (q, q_len) = (qualities.as_mut_ptr(), qualities.len());
+    // SAFETY: every pointer is that of a slice of as many elements as are named after it, and those
+    // to be written are borrowed exclusively.
+    unsafe {
+        match strict {
+            None => {
+                hopsickle_read(s, s_len, channels, n, n_len, o, o_len, c, c_len, q, q_len, place)
+            }
+            Some(fixed) => hopsickle_read_strict(
+                s, s_len, channels, fixed, n, n_len, o, o_len, c, c_len, q, q_len, place,
+            ),
+        }
+    }
 }
 
 pub const MAX_ASDUS: usize = 8;

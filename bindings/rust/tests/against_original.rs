@@ -3,12 +3,12 @@
 //! differences that are looked for here, docs/TESTING.md their classes.
 
 use hopsickle as ours;
-use hopsickle::{Frame, Refusal};
+use hopsickle::{Form, Frame, Refusal};
 use oracle::answer::{answer, quiet_panics, ACCEPTED, PANICKED, REFUSED};
-use oracle::frame::header_size;
+use oracle::frame::{fixed, header_size};
 use oracle::generate::{request, Random};
 use oracle::hex::hex;
-use oracle::layout::{bits, described, Cursor, Header, Pdu};
+use oracle::layout::{asked, bits, described, Cursor, Header, Pdu};
 use oracle::types as theirs;
 use std::collections::BTreeMap;
 
@@ -217,7 +217,8 @@ fn frame(octets: &[u8]) -> Outcome {
     let frame = read.as_ref().map(|frame| laid_out(Some(&frame.header()), &frame.pdu()));
     alike("read_frame", frame.map_err(|refusal| *refusal), answered.clone())?;
 
-    strict(s, &config, &read)?;
+    strict(s, &config, Form::Shortest, &read)?;
+    strict(s, &config, Form::Fixed, &read)?;
     let theirs = answer(b'f', octets);
     let tagged = s.get(12..14) == Some(&[0x81, 0x00]);
     if config.config.len() <= 24 && s.len() < if tagged { 22 } else { 18 } {
@@ -229,17 +230,19 @@ fn frame(octets: &[u8]) -> Outcome {
     class_of_reading(s, start, config.config.len(), true, &theirs, &answered)
 }
 
-/// Strict reading accepts what the writer writes again of what was read, and nothing else.
+/// Strict reading accepts what the writer writes again of what was read in that form, and nothing
+/// else.
 fn strict(
     s: &[u8],
     config: &ours::SavDataSetConfig,
+    form: Form,
     read: &Result<Frame, Refusal>,
 ) -> Result<(), String> {
     let owed = match read {
         Err(refusal) => Err(*refusal),
         Ok(frame) => {
             let mut again = [0; ours::sys::MAX_FRAME];
-            let size = frame.write(&mut again);
+            let size = frame.write(form, &mut again);
             let place = size.map_or(Some(0), |size| {
                 let same = again[..size].iter().zip(s).take_while(|(one, other)| one == other);
                 Some(same.count()).filter(|&same| same < size || same < s.len())
@@ -250,7 +253,7 @@ fn strict(
             }
         }
     };
-    match (ours::read_strict(s, config), owed) {
+    match (ours::read_strict(s, config, form), owed) {
         (Err(one), Err(other)) => alike("strict reading", one, other),
         (Ok(one), Ok(other)) => {
             alike("strict reading, header", one.header(), other.header())?;
@@ -354,13 +357,7 @@ fn encode(random: &mut Random, octets: &[u8]) -> Outcome {
         (None, [ACCEPTED, frame @ ..]) if 1492 < frame.len() - header_size(&header) => {
             ("PDU above 1,492 octets: refused 10", Err(10))
         }
-        (None, [ACCEPTED, frame @ ..]) => {
-            let scales = |i: usize| pdu.asdus[i].samples.iter().map(|sample| sample.scale);
-            let one = (0..pdu.asdus.len()).all(|i| scales(i).eq(scales(0)));
-            let class =
-                if one { "answered alike" } else { "answered alike, scale factors that differ" };
-            (class, Ok(frame.to_vec()))
-        }
+        (None, [ACCEPTED, frame @ ..]) => ("answered alike", Ok(frame.to_vec())),
         _ => return Err(format!("the original answers {}", hex(&theirs))),
     };
     let owed = owed.map_err(|number| Refusal { number, place: 0 });
@@ -370,23 +367,71 @@ fn encode(random: &mut Random, octets: &[u8]) -> Outcome {
 
     let size = written.as_ref().map(Vec::len).map_err(|refusal| *refusal);
     if size.is_ok() || size.is_err_and(|refusal| refusal.number != Refusal::VALUE_OUT_OF_RANGE) {
-        alike("smv_size", ours::smv_size(&our_header, &our_pdu), size)?;
+        alike("smv_size", ours::smv_size(&our_header, &our_pdu, Form::Shortest), size)?;
     }
-    if let Ok(frame) = &written {
-        let scales = our_pdu.sav_asdu[0].all_data.iter().map(|one| one.scale_factor);
-        let config = ours::SavDataSetConfig::new(scales.map(ours::SavValueConfig::new).collect());
-        let read = ours::read_strict(frame, &config).map_err(|refusal| refusal.to_string())?;
-        let again = ours::encode_counts(&our_header, &our_pdu, read.counts());
-        alike("encode_counts", again, written)?;
+    let Ok(frame) = &written else {
+        return Ok(class);
+    };
+    let scales = our_pdu.sav_asdu[0].all_data.iter().map(|one| one.scale_factor);
+    let scales: Vec<f32> = scales.collect();
+    let config = scales.iter().map(|&scale| ours::SavValueConfig::new(scale)).collect();
+    let read = ours::read_strict(frame, &ours::SavDataSetConfig::new(config), Form::Shortest);
+    let counts = read.map_err(|refusal| refusal.to_string())?.counts().to_vec();
+    let again = ours::encode_counts(&our_header, &our_pdu, &counts, Form::Shortest);
+    alike("encode_counts", again.as_ref(), Ok(frame))?;
+
+    let owed = fixed_frame(&header, &pdu, &counts);
+    let written = ours::encode_values(&our_header, &our_pdu, Form::Fixed);
+    alike("fixed form", &written, &owed)?;
+    let again = ours::encode_counts(&our_header, &our_pdu, &counts, Form::Fixed);
+    alike("fixed form, of counts", &again, &owed)?;
+    let size = ours::smv_size(&our_header, &our_pdu, Form::Fixed);
+    alike("fixed form, size", size, owed.as_ref().map(Vec::len).map_err(|refusal| *refusal))?;
+    if let Ok(fixed) = &written {
+        let (mut header, pdu) = read_by_original(&scales, frame);
+        let length = fixed.len() - header_size(&header) + 8;
+        header.length = (length as u16).to_be_bytes();
+        alike("fixed form, read", read_by_original(&scales, fixed), (header, pdu))?;
     }
-    Ok(class)
+    let scales = |i: usize| pdu.asdus[i].samples.iter().map(|sample| sample.scale);
+    let one = (0..pdu.asdus.len()).all(|i| scales(i).eq(scales(0)));
+    Ok(match (one, written.is_ok()) {
+        (true, true) => "answered alike; the fixed form read alike",
+        (true, false) => "answered alike; the fixed form refused 10",
+        (false, true) => "answered alike, scale factors that differ; the fixed form read alike",
+        (false, false) => "answered alike, scale factors that differ; the fixed form refused 10",
+    })
+}
+
+/// What is owed in the fixed form for a description with these counts, by the oracle's own writer.
+fn fixed_frame(header: &Header, pdu: &Pdu, counts: &[i32]) -> Result<Vec<u8>, Refusal> {
+    let mut pdu = pdu.clone();
+    let samples = pdu.asdus.iter_mut().flat_map(|asdu| &mut asdu.samples);
+    for (sample, count) in samples.zip(counts) {
+        sample.value = *count as u32;
+        sample.quality &= 0x1fff;
+    }
+    let frame = fixed(header, &pdu).octets;
+    if 1492 < frame.len() - header_size(header) {
+        return Err(Refusal { number: Refusal::TOO_LONG_TO_WRITE, place: 0 });
+    }
+    Ok(frame)
+}
+
+/// What the original reads of a frame.
+fn read_by_original(scales: &[f32], frame: &[u8]) -> (Header, Pdu) {
+    let answer = answer(b'f', &asked(scales, frame));
+    assert_eq!(answer[0], ACCEPTED);
+    let mut answer = Cursor(&answer[1..]);
+    answer.header().zip(answer.pdu()).expect("a description")
 }
 
 fn size(octets: &[u8]) -> Outcome {
     let mut asked = Cursor(octets);
     let (header, pdu) = asked.header().zip(asked.pdu()).ok_or("no description")?;
     let original = pdu.to_original().ok_or("a text that isn't UTF-8")?;
-    let size = ours::smv_size(&to_ours::header(&header.to_original()), &to_ours::pdu(&original));
+    let (our_header, our_pdu) = (to_ours::header(&header.to_original()), to_ours::pdu(&original));
+    let size = ours::smv_size(&our_header, &our_pdu, Form::Shortest);
     let theirs = answer(b's', octets);
     let number = Cursor(&theirs[1..]).u32().unwrap_or(0) as usize;
     let (class, owed) = match refused_as(&header, &pdu) {
@@ -415,8 +460,8 @@ fn count_of_value(octets: &[u8]) -> Outcome {
     let config = ours::SavDataSetConfig::new(vec![ours::SavValueConfig::new(1.0)]);
     let count = match ours::encode_smv(&header, &pdu) {
         Ok(frame) => {
-            let read = ours::read_strict(&frame, &config).map_err(|refusal| refusal.to_string())?;
-            Ok(read.counts()[0])
+            let read = ours::read_strict(&frame, &config, Form::Shortest);
+            Ok(read.map_err(|refusal| refusal.to_string())?.counts()[0])
         }
         Err(error) => Err(error.refusal().map_or(0, |refusal| refusal.number)),
     };
@@ -433,7 +478,8 @@ fn value_of_count(octets: &[u8]) -> Outcome {
     let (count, scale) = asked.u32().zip(asked.u32()).ok_or("no count")?;
     let scale = f32::from_bits(scale);
     let (header, pdu) = of_one_sample(0.0, scale);
-    let frame = ours::encode_counts(&header, &pdu, &[count as i32]).map_err(|x| x.to_string())?;
+    let frame = ours::encode_counts(&header, &pdu, &[count as i32], Form::Shortest);
+    let frame = frame.map_err(|refusal| refusal.to_string())?;
     let config = ours::SavDataSetConfig::new(vec![ours::SavValueConfig::new(scale)]);
     let read = ours::decode_smv(&frame, 22, &config).map_err(|error| error.to_string())?;
     let value = bits(read.sav_asdu[0].all_data[0].value);

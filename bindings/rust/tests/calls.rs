@@ -10,6 +10,14 @@ const FRAME: [u8; 53] = [
     0xe8, 0x00, 0x00, 0x00, 0x00,
 ];
 
+/// The same in the fixed form.
+const FIXED_FRAME: [u8; 57] = [
+    0x01, 0x0c, 0xcd, 0x04, 0x00, 0x01, 0x00, 0x00, 0x00, 0x00, 0x00, 0x02, 0x88, 0xba, 0x40, 0x00,
+    0x00, 0x2b, 0x00, 0x00, 0x00, 0x00, 0x60, 0x21, 0x80, 0x01, 0x01, 0xa2, 0x1c, 0x30, 0x1a, 0x80,
+    0x01, 0x41, 0x82, 0x02, 0x00, 0x05, 0x83, 0x04, 0x00, 0x00, 0x00, 0x01, 0x85, 0x01, 0x02, 0x87,
+    0x08, 0x00, 0x00, 0x03, 0xe8, 0x00, 0x00, 0x00, 0x00,
+];
+
 fn data_set(scales: &[f32]) -> SavDataSetConfig {
     SavDataSetConfig::new(scales.iter().copied().map(SavValueConfig::new).collect())
 }
@@ -75,7 +83,10 @@ fn changed(change: impl FnOnce(&mut EthernetHeader, &mut SavPdu)) -> Option<usiz
     change(&mut header, &mut pdu);
     let written = refused((header.clone(), pdu.clone()));
     if written != Some(Refusal::VALUE_OUT_OF_RANGE) {
-        assert_eq!(smv_size(&header, &pdu).err().map(|refusal| refusal.number), written);
+        assert_eq!(
+            smv_size(&header, &pdu, Form::Shortest).err().map(|refusal| refusal.number),
+            written
+        );
     }
     written
 }
@@ -195,19 +206,19 @@ fn what_was_read() {
 fn octets_that_are_no_utf_8() {
     let mut octets = FRAME;
     octets[33] = 0xff;
-    let frame = read_strict(&octets, &data_set(&[1.0])).unwrap();
+    let frame = read_strict(&octets, &data_set(&[1.0]), Form::Shortest).unwrap();
     assert_eq!(frame.sv_id(0), Some(&[0xff][..]));
     assert_eq!(frame.pdu().sav_asdu[0].msv_id, "\u{fffd}");
     let mut again = [0; 53];
-    assert_eq!(frame.write(&mut again), Ok(53));
+    assert_eq!(frame.write(Form::Shortest, &mut again), Ok(53));
     assert_eq!(again, octets);
 }
 
 #[test]
 fn counts_beyond_24_bits() {
     let (header, pdu) = described();
-    let octets = encode_counts(&header, &pdu, &[16_777_217]).unwrap();
-    let frame = read_strict(&octets, &data_set(&[1.0])).unwrap();
+    let octets = encode_counts(&header, &pdu, &[16_777_217], Form::Shortest).unwrap();
+    let frame = read_strict(&octets, &data_set(&[1.0]), Form::Shortest).unwrap();
     assert_eq!(frame.counts(), [16_777_217]);
     assert_eq!(frame.values(), [16_777_216.0]);
 }
@@ -215,19 +226,25 @@ fn counts_beyond_24_bits() {
 #[test]
 fn strict_reading() {
     let data = data_set(&[1.0]);
-    assert_eq!(read_strict(&FRAME, &data).map(|frame| frame.counts().to_vec()), Ok(vec![1000]));
+    assert_eq!(
+        read_strict(&FRAME, &data, Form::Shortest).map(|frame| frame.counts().to_vec()),
+        Ok(vec![1000])
+    );
     let mut longer = FRAME.to_vec();
     longer.push(0);
-    assert_eq!(read_strict(&longer, &data).err(), Some(refusal(6, 53)));
+    assert_eq!(read_strict(&longer, &data, Form::Shortest).err(), Some(refusal(6, 53)));
     let mut tag = FRAME;
     tag[29] = 0x31;
     assert!(read_frame(&tag, &data).is_ok());
-    assert_eq!(read_strict(&tag, &data).err(), Some(refusal(6, 29)));
+    assert_eq!(read_strict(&tag, &data, Form::Shortest).err(), Some(refusal(6, 29)));
     let mut other = FRAME;
     other[13] = 0xb8;
-    assert_eq!(read_strict(&other, &data).err(), Some(refusal(6, 0)));
-    assert_eq!(read_strict(&FRAME[..52], &data).err(), Some(refusal(1, 45)));
-    assert_eq!(read_strict(&FRAME, &data_set(&[1.0; 25])).err(), Some(refusal(8, 0)));
+    assert_eq!(read_strict(&other, &data, Form::Shortest).err(), Some(refusal(6, 0)));
+    assert_eq!(read_strict(&FRAME[..52], &data, Form::Shortest).err(), Some(refusal(1, 45)));
+    assert_eq!(
+        read_strict(&FRAME, &data_set(&[1.0; 25]), Form::Shortest).err(),
+        Some(refusal(8, 0))
+    );
 }
 
 #[test]
@@ -235,21 +252,63 @@ fn one_frame_for_many_readings() {
     let (header, pdu) = full();
     let octets = encode_smv(&header, &pdu).unwrap();
     let mut frame = Frame::default();
-    frame.read_strict(&octets, &data_set(&[1.0])).unwrap();
+    frame.read_strict(&octets, &data_set(&[1.0]), Form::Shortest).unwrap();
     assert_eq!(frame.read(&FRAME[..50], &data_set(&[2.0])), Err(refusal(1, 45)));
     assert_eq!(frame.pdu(), pdu);
     frame.read(&FRAME, &data_set(&[0.5])).unwrap();
     assert_eq!((frame.no_asdu(), frame.security(), frame.values()), (1, None, &[500.0][..]));
-    assert_eq!(frame.write(&mut [0; 52]), Err(refusal(7, 0)));
+    assert_eq!(frame.write(Form::Shortest, &mut [0; 52]), Err(refusal(7, 0)));
 }
 
 #[test]
 fn writing() {
     let (header, pdu) = described();
     assert_eq!(encode_smv(&header, &pdu), Ok(FRAME.to_vec()));
-    assert_eq!(encode_counts(&header, &pdu, &[1000]), Ok(FRAME.to_vec()));
-    assert_eq!(encode_counts(&header, &pdu, &[1000, 5]), Ok(FRAME.to_vec()));
-    assert_eq!(smv_size(&header, &pdu), Ok(53));
+    assert_eq!(encode_counts(&header, &pdu, &[1000], Form::Shortest), Ok(FRAME.to_vec()));
+    assert_eq!(encode_counts(&header, &pdu, &[1000, 5], Form::Shortest), Ok(FRAME.to_vec()));
+    assert_eq!(smv_size(&header, &pdu, Form::Shortest), Ok(53));
+}
+
+#[test]
+fn fixed_form() {
+    let (header, mut pdu) = described();
+    let fixed = FIXED_FRAME.to_vec();
+    assert_eq!(encode_values(&header, &pdu, Form::Fixed), Ok(fixed.clone()));
+    assert_eq!(encode_counts(&header, &pdu, &[1000], Form::Fixed), Ok(fixed));
+    assert_eq!(encode_values(&header, &pdu, Form::Shortest), Ok(FRAME.to_vec()));
+    assert_eq!(smv_size(&header, &pdu, Form::Fixed), Ok(57));
+
+    // Ordinary reading takes both forms, and strict reading the one that it is asked for.
+    let data = data_set(&[1.0]);
+    let frame = read_frame(&FIXED_FRAME, &data).unwrap();
+    assert_eq!(frame.pdu(), read_frame(&FRAME, &data).unwrap().pdu());
+    let mut again = [0; 57];
+    assert_eq!(frame.write(Form::Fixed, &mut again), Ok(57));
+    assert_eq!(again, FIXED_FRAME);
+    let strict = |frame: &[u8], form| {
+        read_strict(frame, &data, form).map(|frame| frame.pdu().sav_asdu[0].clone())
+    };
+    assert_eq!(strict(&FIXED_FRAME, Form::Fixed), Ok(pdu.sav_asdu[0].clone()));
+    assert_eq!(strict(&FIXED_FRAME, Form::Shortest), Err(refusal(6, 17)));
+    assert_eq!(strict(&FRAME, Form::Fixed), Err(refusal(6, 17)));
+
+    let counters = |pdu: &mut SavPdu, smp_cnt, conf_rev, smp_synch| {
+        let asdu = &mut pdu.sav_asdu[0];
+        (asdu.smp_cnt, asdu.conf_rev, asdu.smp_synch) = (smp_cnt, conf_rev, smp_synch);
+    };
+    counters(&mut pdu, 65_535, 4_294_967_295, 255);
+    let largest = encode_values(&header, &pdu, Form::Fixed).unwrap();
+    let octets = [0x82, 2, 0xff, 0xff, 0x83, 4, 0xff, 0xff, 0xff, 0xff, 0x85, 1, 0xff];
+    assert_eq!(largest[34..47], octets);
+    assert_eq!(strict(&largest, Form::Fixed), Ok(pdu.sav_asdu[0].clone()));
+    assert_eq!(strict(&largest, Form::Shortest), Err(refusal(6, 17)));
+
+    // Counters that are alike in both forms.
+    counters(&mut pdu, 128, 0x0100_0000, 127);
+    let alike = encode_values(&header, &pdu, Form::Fixed).unwrap();
+    assert_eq!(encode_smv(&header, &pdu), Ok(alike.clone()));
+    assert_eq!(strict(&alike, Form::Fixed), Ok(pdu.sav_asdu[0].clone()));
+    assert_eq!(strict(&alike, Form::Shortest), Ok(pdu.sav_asdu[0].clone()));
 }
 
 #[test]
@@ -258,7 +317,9 @@ fn counts_of_values() {
         let (header, mut pdu) = described();
         pdu.sav_asdu[0].all_data = samples(&[value], scale);
         let octets = encode_smv(&header, &pdu).map_err(|error| error.refusal())?;
-        read_strict(&octets, &data_set(&[scale])).map(|frame| frame.counts()[0]).map_err(Some)
+        read_strict(&octets, &data_set(&[scale]), Form::Shortest)
+            .map(|frame| frame.counts()[0])
+            .map_err(Some)
     };
     assert_eq!(count(-0.5, 1.0), Ok(-1));
     assert_eq!(count(2.5, 1.0), Ok(3));
@@ -278,7 +339,7 @@ fn scale_factors_that_differ() {
         asdu.all_data = samples(&[-1.0, 7.0], scale);
     }
     let octets = encode_smv(&header, &pdu).unwrap();
-    let frame = read_strict(&octets, &data_set(&[1.0, 1.0])).unwrap();
+    let frame = read_strict(&octets, &data_set(&[1.0, 1.0]), Form::Shortest).unwrap();
     assert_eq!(frame.counts(), [-2, 14, -100, 700]);
     // 9 before 11, 11 before 10.
     pdu.sav_asdu[1].all_data[1].value = f32::INFINITY;
@@ -359,7 +420,7 @@ fn refusals_of_writing() {
     assert_eq!(changed(|_, pdu| pdu.sav_asdu[0].all_data[0].value = 1e30), Some(11));
 
     let (header, pdu) = described();
-    assert_eq!(encode_counts(&header, &pdu, &[]), Err(refusal(7, 0)));
+    assert_eq!(encode_counts(&header, &pdu, &[], Form::Shortest), Err(refusal(7, 0)));
 }
 
 #[test]

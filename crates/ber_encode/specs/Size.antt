@@ -56,13 +56,17 @@ pub tlv-size : (tag : ℕ) (content : List ℕ) → length (tlv tag content) ≡
 unfolding tlvSize
 tlv-size tag content = length-tlv tag content
 
--- an integer with its tag, as the writer writes it
-pub tlv-uint : (tag v : ℕ) → tlv tag (uintOctets v) ≡ (tag ∷ lengthOctets (uintSize v)) ++ octets (uintSize v) v
-unfolding tlv uintOctets
-tlv-uint tag v = rw length-octets
+-- k octets of a number with their tag, as the writer writes them
+pub tlv-number : (tag k v : ℕ) → tlv tag (octets k v) ≡ (tag ∷ lengthOctets k) ++ octets k v
+unfolding tlv
+tlv-number tag k v = rw length-octets
+
+pub number-room : (tag k v : ℕ) → length (tlv tag (octets k v)) ≡ 1 + lengthSize k + k
+number-room tag k v = length-tlv tag (octets k v) ∙ rw length-octets
 
 pub uint-room : (tag v : ℕ) → length (tlv tag (uintOctets v)) ≡ 1 + lengthSize (uintSize v) + uintSize v
-uint-room tag v = length-tlv tag (uintOctets v) ∙ rw length-uintOctets
+unfolding uintOctets
+uint-room tag v = number-room tag (uintSize v) v
 
 pub uint-size : (tag v : ℕ) → length (tlv tag (uintOctets v)) ≡ tlvSize (uintSize v)
 uint-size tag v = tlv-size tag (uintOctets v) ∙ ap tlvSize (length-uintOctets v)

@@ -98,14 +98,21 @@ pub fn put_tag_length(buffer: &mut [u8], at: usize, tag: u8, n: usize) -> usize
     put_octets(buffer, p + 1, k, n as u32)
 }
 
+// The k low octets of v, highest first, with their tag.
+pub fn put_number(buffer: &mut [u8], at: usize, tag: u8, k: usize, v: u32) -> usize
+    requires { ⌜ (at + length (tlv tag (octets k v)) ≤ length (now buffer)) × (k < lengthLimit) ⌝ }
+    ensures { λ r. ⌜ Wrote (now (buffer .entry)) at (tlv tag (octets k v)) (now (buffer .exit)) r ⌝ }
+{
+    let p = put_tag_length(buffer, at, tag, k);
+    put_octets(buffer, p, k, v)
+}
+
 // An unsigned integer with its tag.
 pub fn put_uint(buffer: &mut [u8], at: usize, tag: u8, v: u32) -> usize
     requires { ⌜ at + length (tlv tag (uintOctets v)) ≤ length (now buffer) ⌝ }
     ensures { λ r. ⌜ Wrote (now (buffer .entry)) at (tlv tag (uintOctets v)) (now (buffer .exit)) r ⌝ }
 {
-    let k = unsigned_integer_length(v);
-    let p = put_tag_length(buffer, at, tag, k);
-    put_octets(buffer, p, k, v)
+    put_number(buffer, at, tag, unsigned_integer_length(v), v)
 }
 
 // Octets with their tag.

@@ -8,6 +8,7 @@ use rt_services::EthernetHeader;
 use rt_services::SavDataSetConfig;
 use rt_services::SavPdu;
 
+// The frame's octets, or the refusal's number.
 fn written(answer: Written, frame: &[u8]) {
     match answer {
         Written::Refused(r) => describe::number(b"refused", r.number),
@@ -22,7 +23,22 @@ fn title(kind: &[u8], name: &[u8]) {
     say(b"\n");
 }
 
-// A description, and what the writer does with it.
+// What the writer does with a description in a form.
+fn write(
+    header: EthernetHeader,
+    pdu: SavPdu,
+    channels: usize,
+    fixed: bool,
+    counts: &[i32],
+    qualities: &[u32],
+) {
+    let mut space = [0; SavPdu::MAX_FRAME];
+    let frame: &mut [u8] = &mut space;
+    let answer = encode_smv::encode_smv(header, pdu, channels, fixed, counts, qualities, frame);
+    written(answer, frame);
+}
+
+// A description, and what the writer does with it in both forms.
 pub fn frame(
     name: &[u8],
     header: EthernetHeader,
@@ -34,10 +50,9 @@ pub fn frame(
     title(b"frame ", name);
     describe::number(b"channels", channels);
     describe::description(header, pdu, channels, counts, qualities);
-    let mut space = [0; SavPdu::MAX_FRAME];
-    let frame: &mut [u8] = &mut space;
-    let answer = encode_smv::encode_smv(header, pdu, channels, counts, qualities, frame);
-    written(answer, frame);
+    write(header, pdu, channels, false, counts, qualities);
+    say(b"fixed ");
+    write(header, pdu, channels, true, counts, qualities);
 }
 
 // The answer of a reading: number 0 is accepted.
@@ -72,15 +87,15 @@ fn found(got: SavRead, channels: usize, counts: &[i32], qualities: &[u32]) {
     describe::description(header, pdu, channels, counts, qualities);
 }
 
-// What strict reading answers; where it accepts, it hands back what ordinary reading does.
-fn strict(s: &[u8], channels: usize) {
+// What strict reading answers in a form; where it accepts, it hands back what ordinary reading does.
+fn strict(s: &[u8], channels: usize, fixed: bool) {
     let mut counts = [0; SavDataSetConfig::MAX_SAMPLES];
     let mut qualities = [0; SavDataSetConfig::MAX_SAMPLES];
-    let got = strict_smv::read_strict(s, channels, &mut counts, &mut qualities);
+    let got = strict_smv::read_strict(s, channels, fixed, &mut counts, &mut qualities);
     answered(b"strict", got.number, got.place);
 }
 
-// What both readings answer, and what is found.
+// What both readings answer, strict reading in both forms, and what is found.
 fn readings(s: &[u8], channels: usize) {
     let mut count_space = [0; SavDataSetConfig::MAX_SAMPLES];
     let counts: &mut [i32] = &mut count_space;
@@ -88,7 +103,9 @@ fn readings(s: &[u8], channels: usize) {
     let qualities: &mut [u32] = &mut quality_space;
     let got = decode_smv::read_frame(s, channels, counts, qualities);
     answered(b"ordinary", got.number, got.place);
-    strict(s, channels);
+    strict(s, channels, false);
+    say(b"fixed ");
+    strict(s, channels, true);
     if got.number == 0 {
         found(got, channels, counts, qualities);
     }

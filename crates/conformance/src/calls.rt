@@ -21,6 +21,7 @@ pub fn print() {
     limits();
     words();
     sizes();
+    fixed();
 }
 
 // An answer, without the line's end.
@@ -62,7 +63,7 @@ fn octets(
     let mut space = [0; SavPdu::MAX_FRAME];
     let frame: &mut [u8] = &mut space;
     say(name);
-    let answer = encode_smv::encode_smv(header, pdu, channels, counts, qualities, frame);
+    let answer = encode_smv::encode_smv(header, pdu, channels, false, counts, qualities, frame);
     tell_octets(answer, frame);
     say(b"\n");
 }
@@ -78,7 +79,7 @@ fn answer_in(
     frame: &mut [u8],
 ) {
     say(name);
-    tell(encode_smv::encode_smv(header, pdu, channels, counts, qualities, frame));
+    tell(encode_smv::encode_smv(header, pdu, channels, false, counts, qualities, frame));
     say(b"\n");
 }
 
@@ -123,13 +124,12 @@ fn frames() {
         &counts,
         &qualities,
     );
-    say(b"their size: ");
-    tell(encode_smv::smv_size(
+    size(
+        b"their size: ",
         crate::records::tagged(0x8100, 0x6005),
         crate::records::numbered(8),
         8,
-    ));
-    say(b"\n");
+    );
 }
 
 // The frame with this smpCnt, without channels.
@@ -175,32 +175,40 @@ fn lengths() {
     );
 }
 
-// Writes document 01's frame.
-fn frame_in(frame: &mut [u8]) -> Written {
+// Writes document 01's frame in a form.
+fn frame_in(fixed: bool, frame: &mut [u8]) -> Written {
     let pdu = crate::records::pdu(crate::records::asdu(), 1);
-    encode_smv::encode_smv(crate::records::header(), pdu, 1, &[1000], &[0], frame)
+    encode_smv::encode_smv(
+        crate::records::header(),
+        pdu,
+        1,
+        fixed,
+        &[1000],
+        &[0],
+        frame,
+    )
 }
 
-// Writes it into the first `room` of 56 octets EE, and prints them all.
-fn buffer(name: &[u8], room: usize) {
-    let mut space = [0xee; 56];
+// Writes it into the first `room` of 60 octets EE, and prints them all.
+fn buffer(name: &[u8], fixed: bool, room: usize) {
+    let mut space = [0xee; 60];
     let frame: &mut [u8] = &mut space;
     if frame.len() < room {
         return;
     }
-    let answer = frame_in(&mut frame[..room]);
+    let answer = frame_in(fixed, &mut frame[..room]);
     say(name);
     tell(answer);
     say(b", ");
-    hex(frame, 56);
+    hex(frame, 60);
     say(b"\n");
 }
 
 // One octet less than the frame's 53, just as many, and one more.
 fn buffers() {
-    buffer(b"buffer of 52: ", 52);
-    buffer(b"buffer of 53: ", 53);
-    buffer(b"buffer of 54: ", 54);
+    buffer(b"buffer of 52: ", false, 52);
+    buffer(b"buffer of 53: ", false, 53);
+    buffer(b"buffer of 54: ", false, 54);
 }
 
 // Which of two refusals comes first: 8, 7 for the arrays, 9, 10, 7 for the frame.
@@ -301,10 +309,14 @@ fn words() {
     );
 }
 
-fn size(name: &[u8], header: EthernetHeader, pdu: SavPdu, channels: usize) {
+fn size_in(name: &[u8], header: EthernetHeader, pdu: SavPdu, channels: usize, fixed: bool) {
     say(name);
-    tell(encode_smv::smv_size(header, pdu, channels));
+    tell(encode_smv::smv_size(header, pdu, channels, fixed));
     say(b"\n");
+}
+
+fn size(name: &[u8], header: EthernetHeader, pdu: SavPdu, channels: usize) {
+    size_in(name, header, pdu, channels, false);
 }
 
 // Sizes of the same descriptions.
@@ -333,5 +345,28 @@ fn sizes() {
         crate::records::tagged(0x88a8, 0x6005),
         one,
         1,
+    );
+}
+
+// Buffers and sizes in the fixed form: 57 octets for document 01's frame.
+fn fixed() {
+    buffer(b"fixed form, buffer of 56: ", true, 56);
+    buffer(b"fixed form, buffer of 57: ", true, 57);
+    let h = crate::records::header();
+    let one = crate::records::pdu(crate::records::asdu(), 1);
+    size_in(b"fixed form, size: ", h, one, 1, true);
+    size_in(
+        b"fixed form, size, PDU of 1492: ",
+        h,
+        crate::records::long_pdu(87),
+        0,
+        true,
+    );
+    size_in(
+        b"fixed form, size, PDU of 1493: ",
+        h,
+        crate::records::long_pdu(88),
+        0,
+        true,
     );
 }

@@ -141,6 +141,22 @@ pub fn print_lengths() {
         &[0],
         &[0],
     );
+    frame(
+        b"PDU of 1492 octets in the fixed form",
+        h,
+        crate::records::long_pdu(87),
+        0,
+        &[0],
+        &[0],
+    );
+    frame(
+        b"PDU of 1493 octets in the fixed form",
+        h,
+        crate::records::long_pdu(88),
+        0,
+        &[0],
+        &[0],
+    );
 }
 
 // Counts and quality words that differ from channel to channel.

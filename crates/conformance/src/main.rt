@@ -38,13 +38,17 @@ fn print_format() {
         b"# frame NAME         what a writer does with a description; arrays and buffer are long enough\n",
     );
     say(b"#   channels N, the lines of the description, and\n");
-    say(b"#   octets HEX         the frame, from first octet to last, or\n");
+    say(b"#   octets HEX         the frame in the shortest form, from first octet to last, or\n");
     say(b"#   refused N          the refusal's number, its place being 0\n");
+    say(b"#   fixed octets HEX, or fixed refused N, the same in the fixed form\n");
     say(b"# read NAME          what reading octets answers; arrays are long enough\n");
     say(b"#   channels N         the number of channels that is asked for\n");
     say(b"#   octets HEX         the input\n");
     say(b"#   ordinary accepted, or ordinary refused N P, the refusal's number and place\n");
-    say(b"#   strict accepted, or strict refused N P, and where ordinary reading accepts\n");
+    say(b"#   strict accepted, or strict refused N P, in the shortest form\n");
+    say(
+        b"#   fixed strict accepted, or fixed strict refused N P, and where ordinary reading accepts\n",
+    );
     say(b"#   length N           Length as it was read\n");
     say(b"#   the lines of the description that was read\n");
     say(b"#\n");

@@ -9,15 +9,29 @@ use crate::octets::put_all;
 const FRAME: [u8; 53] =
     *b"\x01\x0c\xcd\x04\x00\x01\x00\x00\x00\x00\x00\x02\x88\xba\x40\x00\x00\x27\x00\x00\x00\x00\x60\x1d\x80\x01\x01\xa2\x18\x30\x16\x80\x01\x41\x82\x01\x05\x83\x01\x01\x85\x01\x02\x87\x08\x00\x00\x03\xe8\x00\x00\x00\x00";
 
-// The frame's octets before `from`, then these, then the frame's from `to` on.
-fn replaced(name: &[u8], from: usize, to: usize, octets: &[u8]) {
-    let whole = FRAME;
+// The same in the fixed form. Places: as above up to svID, 34 smpCnt, 38 confRev, 44 smpSynch, 47
+// samples.
+const FIXED_FRAME: [u8; 57] =
+    *b"\x01\x0c\xcd\x04\x00\x01\x00\x00\x00\x00\x00\x02\x88\xba\x40\x00\x00\x2b\x00\x00\x00\x00\x60\x21\x80\x01\x01\xa2\x1c\x30\x1a\x80\x01\x41\x82\x02\x00\x05\x83\x04\x00\x00\x00\x01\x85\x01\x02\x87\x08\x00\x00\x03\xe8\x00\x00\x00\x00";
+
+// A frame's octets before `from`, then these, then the frame's from `to` on.
+fn replaced_in(whole: &[u8], name: &[u8], from: usize, to: usize, octets: &[u8]) {
     let mut space = [0; 256];
     let out: &mut [u8] = &mut space;
-    let n = put_all(out, 0, first(&whole, from));
+    let n = put_all(out, 0, first(whole, from));
     let n = put_all(out, n, octets);
-    let n = put_all(out, n, after(&whole, to));
+    let n = put_all(out, n, after(whole, to));
     read(name, 1, first(out, n));
+}
+
+fn replaced(name: &[u8], from: usize, to: usize, octets: &[u8]) {
+    let whole = FRAME;
+    replaced_in(&whole, name, from, to, octets);
+}
+
+fn replaced_fixed(name: &[u8], from: usize, to: usize, octets: &[u8]) {
+    let whole = FIXED_FRAME;
+    replaced_in(&whole, name, from, to, octets);
 }
 
 // The frame's first n octets.
@@ -38,9 +52,10 @@ pub fn print() {
     integers();
     texts();
     lenient();
+    fixed();
 }
 
-// What both readings accept.
+// What both readings accept, strict reading in the shortest form.
 fn accepted() {
     replaced(b"of document 01", 53, 53, b"");
     replaced(b"with VLAN", 12, 12, b"\x81\x00\x60\x05");
@@ -158,4 +173,24 @@ fn lenient() {
     other(b"another tag for svID", 31, 0);
     other(b"quality word of 2^31", 49, 0x80);
     replaced(b"no ASDU", 26, 53, b"\x00\xa2\x00");
+}
+
+// Counters of fixed width: what strict reading accepts in the fixed form, in both forms and in none.
+fn fixed() {
+    replaced_fixed(b"of document 01 in the fixed form", 57, 57, b"");
+    replaced_fixed(
+        b"largest counters in the fixed form",
+        36,
+        47,
+        b"\xff\xff\x83\x04\xff\xff\xff\xff\x85\x01\xff",
+    );
+    replaced_fixed(
+        b"counters alike in both forms",
+        36,
+        44,
+        b"\x00\x80\x83\x04\x01\x00\x00\x00",
+    );
+    replaced_fixed(b"smpCnt of one octet, else fixed", 35, 38, b"\x01\x05");
+    replaced_fixed(b"smpSynch 00 FF, else fixed", 45, 47, b"\x02\x00\xff");
+    replaced_fixed(b"an octet after the end of the fixed form", 57, 57, b"\x00");
 }

@@ -87,10 +87,10 @@ pub fn with_optional(
     }
 }
 
-// The ASDU with datSet absent or present, and no other optional field.
-pub fn with_dat_set(dat_set: Presence) -> SavAsdu {
+// An ASDU with datSet absent or present, and no other optional field.
+fn dat_set_of(a: SavAsdu, dat_set: Presence) -> SavAsdu {
     with_optional(
-        asdu(),
+        a,
         dat_set,
         Presence::Absent,
         OptionalU16::Absent,
@@ -99,14 +99,33 @@ pub fn with_dat_set(dat_set: Presence) -> SavAsdu {
     )
 }
 
-// The ASDU with svID and datSet of these lengths; a datSet is there where it has octets.
-pub fn texts(sv_id: usize, dat_set: usize) -> SavAsdu {
-    let mut a = asdu();
+// The same of document 01's ASDU.
+pub fn with_dat_set(dat_set: Presence) -> SavAsdu {
+    dat_set_of(asdu(), dat_set)
+}
+
+// An ASDU with svID and datSet of these lengths; a datSet is there where it has octets.
+fn texts_of(one: SavAsdu, sv_id: usize, dat_set: usize) -> SavAsdu {
+    let mut a = one;
     if 0 < dat_set {
-        a = with_dat_set(Presence::Present);
+        a = dat_set_of(one, Presence::Present);
     }
     a.msv_id_len = sv_id;
     a.dat_set_len = dat_set;
+    a
+}
+
+// The same of document 01's ASDU.
+pub fn texts(sv_id: usize, dat_set: usize) -> SavAsdu {
+    texts_of(asdu(), sv_id, dat_set)
+}
+
+// The ASDU with the largest smpCnt, confRev and smpSynch.
+pub fn largest_counters() -> SavAsdu {
+    let mut a = asdu();
+    a.smp_cnt = 65535;
+    a.conf_rev = 4294967295;
+    a.smp_synch = 255;
     a
 }
 
@@ -182,10 +201,15 @@ pub fn numbered(n: u16) -> SavPdu {
     p
 }
 
-// A PDU of 1,381 octets and the last ASDU's datSet: six ASDUs without channels, svID of 127 octets,
-// and datSet of 100 in all but the last.
-pub fn long_pdu(len: usize) -> SavPdu {
-    let a = texts(127, 100);
-    let asdus = [a, a, a, a, a, texts(127, len), a, a];
+// A PDU of six ASDUs without channels, svID of 127 octets, datSet of 100 in all but the last and of
+// `len` in that.
+pub fn long_pdu_of(one: SavAsdu, len: usize) -> SavPdu {
+    let a = texts_of(one, 127, 100);
+    let asdus = [a, a, a, a, a, texts_of(one, 127, len), a, a];
     pdu_of(asdus, 6)
+}
+
+// The same of document 01's ASDU: 1,381 octets and `len` in the shortest form, 24 more in the fixed.
+pub fn long_pdu(len: usize) -> SavPdu {
+    long_pdu_of(asdu(), len)
 }

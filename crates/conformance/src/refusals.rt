@@ -46,4 +46,12 @@ pub fn print() {
         &[0],
         &[0],
     );
+    frame(
+        b"largest counters, PDU of 1492 octets in the fixed form",
+        h,
+        crate::records::long_pdu_of(crate::records::largest_counters(), 87),
+        0,
+        &[0],
+        &[0],
+    );
 }

@@ -90,12 +90,12 @@ fn pair(word: &[u8], i: usize) -> u8 {
     octet_of(digit(octet(word, at)), digit(octet(word, plus(at, 1))))
 }
 
-// The octets that a word stands for, and how many.
-pub fn octets_of(word: &[u8], out: &mut [u8]) -> usize {
+// The octets that a word stands for, from a place of `out` on, and how many.
+pub fn octets_of(word: &[u8], out: &mut [u8], at: usize) -> usize {
     let pairs = word.len() / 2;
     let mut i = 0;
     while i < pairs {
-        put(out, i, pair(word, i));
+        put(out, plus(at, i), pair(word, i));
         i += 1;
     }
     pairs

@@ -61,7 +61,18 @@ pub const APPID: usize = 23;
 
 pub const SECURITY: usize = 24;
 
-pub const NUMBERS: usize = 25;
+// In the fixed form: octets, number and place of the refusal by strict reading, and how many frames
+// were written.
+pub const FIXED_OCTETS: usize = 25;
+
+pub const FIXED_STRICT: usize = 26;
+
+pub const FIXED_FRAMES: usize = 28;
+
+pub const NUMBERS: usize = 29;
+
+// Where the octets in the fixed form start, after those in the shortest.
+pub const FIXED_START: usize = 2048;
 
 // Places among the values: nine fields for each of eight ASDUs, then count and quality word of each
 // sample.
@@ -104,16 +115,24 @@ pub fn sample_place(sample: usize) -> usize {
     VALUES
 }
 
+// No answer of a reading yet.
+fn clear_answers(numbers: &mut [usize]) {
+    set(numbers, ORDINARY, 0);
+    set(numbers, ORDINARY + 1, 0);
+    set(numbers, STRICT, 0);
+    set(numbers, STRICT + 1, 0);
+    set(numbers, FIXED_STRICT, 0);
+    set(numbers, FIXED_STRICT + 1, 0);
+}
+
 fn start_block(kind: usize, numbers: &mut [usize]) {
     set(numbers, KIND, kind);
     set(numbers, ASDUS, 0);
     set(numbers, SAMPLES, 0);
     set(numbers, OCTETS, 0);
-    set(numbers, ORDINARY, 0);
-    set(numbers, ORDINARY + 1, 0);
-    set(numbers, STRICT, 0);
-    set(numbers, STRICT + 1, 0);
+    set(numbers, FIXED_OCTETS, 0);
     set(numbers, LENGTH, 65536);
+    clear_answers(numbers);
 }
 
 // The number after a word.
@@ -300,7 +319,7 @@ fn take_other(line: &[u8], numbers: &mut [usize], octets: &mut [u8]) {
         return;
     }
     if same(w, b"octets") {
-        set(numbers, OCTETS, octets_of(rest(line), octets));
+        set(numbers, OCTETS, octets_of(rest(line), octets, 0));
         return;
     }
     if same(w, b"ordinary") {
@@ -312,8 +331,26 @@ fn take_other(line: &[u8], numbers: &mut [usize], octets: &mut [u8]) {
     }
 }
 
+// The octets or the answer of strict reading in the fixed form.
+fn take_fixed(line: &[u8], numbers: &mut [usize], octets: &mut [u8]) {
+    let w = word(line);
+    let text = rest(line);
+    if same(w, b"octets") {
+        set(numbers, FIXED_OCTETS, octets_of(text, octets, FIXED_START));
+        count(numbers, FIXED_FRAMES);
+        return;
+    }
+    if same(w, b"strict") {
+        take_answer(text, FIXED_STRICT, numbers);
+    }
+}
+
 // Lines outside of ASDUs.
 fn take_outside(line: &[u8], numbers: &mut [usize], octets: &mut [u8]) {
+    if same(word(line), b"fixed") {
+        take_fixed(rest(line), numbers, octets);
+        return;
+    }
     take_start(line, numbers);
     take_other(line, numbers, octets);
     take_header(line, numbers);

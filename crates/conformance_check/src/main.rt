@@ -14,6 +14,7 @@ use crate::print::say;
 use libc::STDIN_FILENO;
 use list::BLOCKS;
 use list::DIFFER;
+use list::FIXED_FRAMES;
 use list::FRAMES;
 use list::KIND;
 use list::READS;
@@ -33,7 +34,7 @@ fn check(input: &[u8]) {
     let numbers: &mut [usize] = &mut number_space;
     let mut value_space = [0; list::VALUES];
     let values: &mut [usize] = &mut value_space;
-    let mut octet_space = [0; 2048];
+    let mut octet_space = [0; 2 * list::FIXED_START];
     let octets: &mut [u8] = &mut octet_space;
     take_all(input, numbers, values, octets);
     end_block(numbers, values, octets);
@@ -44,6 +45,8 @@ fn check(input: &[u8]) {
 fn print_end(numbers: &[usize]) {
     decimal(get(numbers, FRAMES));
     say(b" frames read, ");
+    decimal(get(numbers, FIXED_FRAMES));
+    say(b" in the fixed form, ");
     decimal(get(numbers, REFUSED));
     say(b" descriptions refused, ");
     decimal(get(numbers, READS));

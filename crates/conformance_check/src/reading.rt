@@ -5,6 +5,7 @@ use crate::list;
 use crate::list::field_place;
 use crate::list::get;
 use crate::list::sample_place;
+use crate::octets::after;
 use crate::octets::first;
 use crate::octets::plus;
 use decode_smv::SavRead;
@@ -195,12 +196,20 @@ fn answer_is(number: usize, place: usize, at: usize, numbers: &[usize]) -> bool 
     number == get(numbers, at) && place == get(numbers, plus(at, 1))
 }
 
-// Whether strict reading answers what the block says; it accepts what a writer wrote.
-fn strict_is(s: &[u8], channels: usize, numbers: &[usize]) -> bool {
+// The place of what the block says of strict reading in a form; it accepts what a writer wrote.
+fn strict_place(fixed: bool) -> usize {
+    if fixed {
+        return list::FIXED_STRICT;
+    }
+    list::STRICT
+}
+
+// Whether strict reading in a form answers what the block says.
+fn strict_is(s: &[u8], channels: usize, fixed: bool, numbers: &[usize]) -> bool {
     let mut counts = [0; SavDataSetConfig::MAX_SAMPLES];
     let mut qualities = [0; SavDataSetConfig::MAX_SAMPLES];
-    let got = strict_smv::read_strict(s, channels, &mut counts, &mut qualities);
-    answer_is(got.number, got.place, list::STRICT, numbers)
+    let got = strict_smv::read_strict(s, channels, fixed, &mut counts, &mut qualities);
+    answer_is(got.number, got.place, strict_place(fixed), numbers)
 }
 
 // Whether ordinary reading answers and finds what the block says.
@@ -219,12 +228,28 @@ fn ordinary_is(s: &[u8], channels: usize, numbers: &[usize], values: &[usize]) -
     is_found(got, counts, qualities, numbers, values)
 }
 
-// Whether a block differs from what reading its octets answers. A refused description has none.
-pub fn differs(numbers: &[usize], values: &[usize], octets: &[u8]) -> bool {
-    if get(numbers, list::KIND) == list::REFUSED {
-        return false;
+// Whether both readings answer what the block says of what a writer wrote in a form; a refused
+// description has no octets.
+fn written_is(s: &[u8], channels: usize, fixed: bool, numbers: &[usize], values: &[usize]) -> bool {
+    if s.len() == 0 {
+        return true;
     }
+    ordinary_is(s, channels, numbers, values) && strict_is(s, channels, fixed, numbers)
+}
+
+// Whether a block differs from what reading its octets answers.
+pub fn differs(numbers: &[usize], values: &[usize], octets: &[u8]) -> bool {
     let channels = get(numbers, list::CHANNELS);
     let s = first(octets, get(numbers, list::OCTETS));
-    !(ordinary_is(s, channels, numbers, values) && strict_is(s, channels, numbers))
+    if get(numbers, list::KIND) == list::READS {
+        return !(ordinary_is(s, channels, numbers, values)
+            && strict_is(s, channels, false, numbers)
+            && strict_is(s, channels, true, numbers));
+    }
+    let fixed = first(
+        after(octets, list::FIXED_START),
+        get(numbers, list::FIXED_OCTETS),
+    );
+    !(written_is(s, channels, false, numbers, values)
+        && written_is(fixed, channels, true, numbers, values))
 }

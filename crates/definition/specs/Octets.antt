@@ -61,7 +61,7 @@ length-octets zero n = refl
 length-octets (suc k) n = length-append (octets k (n / 256)) (n % 256 ∷ []) ∙ simp (length-octets k (n / 256)) (omega arith)
 
 -- a choice of two numbers is from the one to the other
-choice : (a : Bool) (x y low high : ℕ) → (low ≤ x) × (x ≤ high) → (low ≤ y) × (y ≤ high) → (low ≤ cond a x y) × (cond a x y ≤ high)
+pub choice : (a : Bool) (x y low high : ℕ) → (low ≤ x) × (x ≤ high) → (low ≤ y) × (y ≤ high) → (low ≤ cond a x y) × (cond a x y ≤ high)
 choice true x y low high h g = h
 choice false x y low high h g = g
 

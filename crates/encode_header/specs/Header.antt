@@ -11,7 +11,7 @@ use lib.Dec.{eqb}
 use borrow.Author.Tests.{eqb-true}
 use Rattle.definition.specs.Limits.{smvEtherType, vlanTpid}
 use Rattle.definition.specs.Octets.{octets, length-octets}
-use Rattle.definition.specs.Frame.{optional, vlanOctets, reserved, pduOctets, lengthOf, frameOctets, held}
+use Rattle.definition.specs.Frame.{Form, optional, vlanOctets, reserved, pduOctets, lengthOf, frameOctets, held}
 use Rattle.definition.specs.Answers.{described}
 use Rattle.rt_services.specs.declared.SavPdu.{SavPdu}
 use Rattle.rt_services.specs.declared.EthernetHeader.{EthernetHeader}
@@ -83,8 +83,8 @@ header-fits h e =
     (eqb-true (h .«ether_type») smvEtherType (b .0), b .1)
 
 -- the frame is the header, then the PDU
-pub frame-is : (n : ℕ) (h : EthernetHeader) (p : SavPdu) (counts : List ℤ) (qualities : List ℕ)
-    → frameOctets (descriptionOf n h p counts qualities)
-    ≡ headerOctets h (p .sim) (lengthOf (descriptionOf n h p counts qualities)) ++ pduOctets (descriptionOf n h p counts qualities)
+pub frame-is : (form : Form) (n : ℕ) (h : EthernetHeader) (p : SavPdu) (counts : List ℤ) (qualities : List ℕ)
+    → frameOctets form (descriptionOf n h p counts qualities)
+    ≡ headerOctets h (p .sim) (lengthOf form (descriptionOf n h p counts qualities)) ++ pduOctets form (descriptionOf n h p counts qualities)
 unfolding frameOctets headerOctets tagOctets descriptionOf described headerOf pduOf
-frame-is n h p counts qualities = simp append-assoc
+frame-is form n h p counts qualities = simp append-assoc

@@ -81,7 +81,15 @@ fn show(
     qualities: &[u32],
     frame: &mut [u8],
 ) {
-    print_answer(encode_values::encode_values(header, pdu, config, values, qualities, frame));
+    print_answer(encode_values::encode_values(
+        header,
+        pdu,
+        config,
+        false,
+        values,
+        qualities,
+        frame,
+    ));
     print_octets(frame);
 }
 

@@ -2,6 +2,7 @@
 // and one of octets, whose places are in the crate layout. Each function answers the number of a
 // refusal, or 0, and writes its place, or the size of what it wrote, through the last parameter. A
 // refusal changes none of the arrays.
+// `fixed` is the form of the counters: fixed, or else shortest.
 ghost use mathlib.Core.Path.{_≡_};
 ghost use Prim.Native.Nat.{_*_, _≤_};
 ghost use lib.ListN.{length};
@@ -152,16 +153,17 @@ pub extern "C" fn hopsickle_decode(
 pub extern "C" fn hopsickle_read_strict(
     frame: &[u8],
     channels: usize,
+    fixed: bool,
     numbers: &mut [u32],
     octets: &mut [u8],
     counts: &mut [i32],
     qualities: &mut [u32],
     place: &mut usize,
 ) -> usize
-    ensures { λ r. ⌜ Reads (flatStrict channels (length (now (numbers .entry))) (length (now (octets .entry))) (length (now (counts .entry))) (length (now (qualities .entry))) (now (frame .entry)))
+    ensures { λ r. ⌜ Reads (flatStrict fixed channels (length (now (numbers .entry))) (length (now (octets .entry))) (length (now (counts .entry))) (length (now (qualities .entry))) (now (frame .entry)))
         (now (numbers .entry)) (now (numbers .exit)) (now (octets .entry)) (now (octets .exit)) (now (counts .entry)) (now (counts .exit)) (now (qualities .entry)) (now (qualities .exit)) r (now (place .exit)) ⌝ }
 {
-    let read = flat_strict::read_strict(frame, channels, numbers, octets, counts, qualities);
+    let read = flat_strict::read_strict(frame, channels, fixed, numbers, octets, counts, qualities);
     answer(read, place)
 }
 
@@ -171,15 +173,16 @@ pub extern "C" fn hopsickle_write(
     numbers: &[u32],
     octets: &[u8],
     channels: usize,
+    fixed: bool,
     counts: &[i32],
     qualities: &[u32],
     frame: &mut [u8],
     size: &mut usize,
 ) -> usize
-    ensures { λ r. ⌜ Writes (flatEncode channels (now (numbers .entry)) (now (octets .entry)) (now (counts .entry)) (now (qualities .entry)) (length (now (frame .entry))))
-        (frameOctets (flatDescription channels (now (numbers .entry)) (now (octets .entry)) (now (counts .entry)) (now (qualities .entry)))) (now (frame .entry)) (now (frame .exit)) r (now (size .exit)) ⌝ }
+    ensures { λ r. ⌜ Writes (flatEncode fixed channels (now (numbers .entry)) (now (octets .entry)) (now (counts .entry)) (now (qualities .entry)) (length (now (frame .entry))))
+        (frameOctets fixed (flatDescription channels (now (numbers .entry)) (now (octets .entry)) (now (counts .entry)) (now (qualities .entry)))) (now (frame .entry)) (now (frame .exit)) r (now (size .exit)) ⌝ }
 {
-    let w = flat_encode::encode_smv(numbers, octets, channels, counts, qualities, frame);
+    let w = flat_encode::encode_smv(numbers, octets, channels, fixed, counts, qualities, frame);
     written(w, size)
 }
 
@@ -190,15 +193,16 @@ pub extern "C" fn hopsickle_write_values(
     numbers: &[u32],
     octets: &[u8],
     scales: &[f32],
+    fixed: bool,
     values: &[f32],
     qualities: &[u32],
     frame: &mut [u8],
     size: &mut usize,
 ) -> usize
-    ensures { λ r. ⌜ Writes (flatEncodeValues (length (now (scales .entry))) (now (numbers .entry)) (now (octets .entry)) (length (now (values .entry))) (countsFor (now (numbers .entry)) (now (scales .entry)) (now (values .entry))) (countsIn (now (numbers .entry)) (now (scales .entry)) (now (values .entry))) (now (qualities .entry)) (length (now (frame .entry))))
-        (frameOctets (describedBy (now (numbers .entry)) (now (octets .entry)) (now (scales .entry)) (now (values .entry)) (now (qualities .entry)))) (now (frame .entry)) (now (frame .exit)) r (now (size .exit)) ⌝ }
+    ensures { λ r. ⌜ Writes (flatEncodeValues fixed (length (now (scales .entry))) (now (numbers .entry)) (now (octets .entry)) (length (now (values .entry))) (countsFor (now (numbers .entry)) (now (scales .entry)) (now (values .entry))) (countsIn (now (numbers .entry)) (now (scales .entry)) (now (values .entry))) (now (qualities .entry)) (length (now (frame .entry))))
+        (frameOctets fixed (describedBy (now (numbers .entry)) (now (octets .entry)) (now (scales .entry)) (now (values .entry)) (now (qualities .entry)))) (now (frame .entry)) (now (frame .exit)) r (now (size .exit)) ⌝ }
 {
-    let w = flat_encode::encode_values(numbers, octets, scales, values, qualities, frame);
+    let w = flat_encode::encode_values(numbers, octets, scales, fixed, values, qualities, frame);
     written(w, size)
 }
 
@@ -208,12 +212,13 @@ pub extern "C" fn hopsickle_size(
     numbers: &[u32],
     octets: &[u8],
     channels: usize,
+    fixed: bool,
     size: &mut usize,
 ) -> usize
-    ensures { λ r. ⌜ (r ≡ numberOf (flatSize channels (now (numbers .entry)) (now (octets .entry))))
-        × (now (size .exit) ≡ besideIt (λ n. n) (flatSize channels (now (numbers .entry)) (now (octets .entry)))) ⌝ }
+    ensures { λ r. ⌜ (r ≡ numberOf (flatSize fixed channels (now (numbers .entry)) (now (octets .entry))))
+        × (now (size .exit) ≡ besideIt (λ n. n) (flatSize fixed channels (now (numbers .entry)) (now (octets .entry)))) ⌝ }
 {
-    let w = flat_encode::smv_size(numbers, octets, channels);
+    let w = flat_encode::smv_size(numbers, octets, channels, fixed);
     written(w, size)
 }
 

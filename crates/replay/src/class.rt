@@ -5,7 +5,7 @@ use crate::octets::octet;
 use libc::STDOUT_FILENO;
 
 // The classes are below this.
-pub const CLASSES: usize = 32;
+pub const CLASSES: usize = 33;
 
 pub const UNEXPLAINED: usize = 0;
 
@@ -77,10 +77,19 @@ pub const OTHER_SCALES: usize = 25;
 // The Rust's sum of index and length overflows, in the integer reader by itself; ours is refusal 1 at the index.
 pub const PANIC_SUM: usize = 26;
 
-// Alike, and strict reading accepts it: it is what the writer writes again. With text that is UTF-8, and that isn't.
-pub const STRICT: usize = 27;
+// Alike, and strict reading accepts it: it is what the writer writes again in the shortest form, in the fixed form, or in
+// both. With text that is UTF-8, and that isn't.
+pub const SHORTEST: usize = 27;
 
-pub const STRICT_LOSSY: usize = 28;
+pub const SHORTEST_LOSSY: usize = 28;
+
+pub const FIXED: usize = 29;
+
+pub const FIXED_LOSSY: usize = 30;
+
+pub const BOTH: usize = 31;
+
+pub const BOTH_LOSSY: usize = 32;
 
 // The status of a panic.
 pub const PANICKED: u8 = 2;
@@ -118,19 +127,29 @@ pub fn print_name(class: usize) {
         24 => say(b"answered alike, quality bits 13 to 31 cleared: refused 9 with them"),
         25 => say(b"answered alike, scale factors that differ: by the writer of counts"),
         26 => say(b"the Rust panics, index plus length of 2^64 or more: refused 1 at the index"),
-        27 => say(b"answered alike, strict reading accepts it"),
-        28 => say(b"answered alike, strict reading accepts it, text that isn't UTF-8"),
+        27 => say(b"answered alike, strict reading accepts it in the shortest form"),
+        28 => say(
+            b"answered alike, strict reading accepts it in the shortest form, text that isn't UTF-8",
+        ),
+        29 => say(b"answered alike, strict reading accepts it in the fixed form"),
+        30 => say(
+            b"answered alike, strict reading accepts it in the fixed form, text that isn't UTF-8",
+        ),
+        31 => say(b"answered alike, strict reading accepts it in both forms"),
+        32 => say(
+            b"answered alike, strict reading accepts it in both forms, text that isn't UTF-8",
+        ),
         _ => say(b"no class"),
     }
 }
 
-// The class of a reading that strict reading accepts.
-pub fn strictly(found: usize) -> usize {
+// The class of a reading that strict reading accepts: `utf8`, or `lossy` with text that isn't UTF-8.
+pub fn strictly(found: usize, utf8: usize, lossy: usize) -> usize {
     if found == ANSWERED {
-        return STRICT;
+        return utf8;
     }
     if found == LOSSY {
-        return STRICT_LOSSY;
+        return lossy;
     }
     found
 }

@@ -264,8 +264,15 @@ fn by_text(found: usize, r: SavRead) -> usize {
     class::LOSSY
 }
 
-// Whether the writer writes these octets again of what was read.
-fn written_again(s: &[u8], channels: usize, r: SavRead, counts: &[i32], qualities: &[u32]) -> bool {
+// Whether the writer writes these octets again, in this form, of what was read.
+fn written_again(
+    s: &[u8],
+    channels: usize,
+    fixed: bool,
+    r: SavRead,
+    counts: &[i32],
+    qualities: &[u32],
+) -> bool {
     let mut buffer = [0u8; SavPdu::MAX_FRAME];
     let header = r.header;
     let sav_asdu = r.sav_asdu;
@@ -279,15 +286,66 @@ fn written_again(s: &[u8], channels: usize, r: SavRead, counts: &[i32], qualitie
         sim: r.sim,
         security,
     };
-    let answer = encode_smv::encode_smv(header, pdu, channels, counts, qualities, &mut buffer);
+    let answer = encode_smv::encode_smv(
+        header,
+        pdu,
+        channels,
+        fixed,
+        counts,
+        qualities,
+        &mut buffer,
+    );
     let Written::At(size) = answer else {
         return false;
     };
     check::same(s, first(&buffer, size))
 }
 
-// The class, with strict reading: it refuses what ordinary reading refuses, and accepts exactly what
-// the writer writes again of what was read.
+// What strict reading makes of octets, held to ordinary reading and to the writer.
+enum Strict {
+    Unexplained,
+    Refused,
+    Accepted,
+}
+
+fn refused_if(holds: bool) -> Strict {
+    if holds {
+        return Strict::Refused;
+    }
+    Strict::Unexplained
+}
+
+fn accepted_if(holds: bool) -> Strict {
+    if holds {
+        return Strict::Accepted;
+    }
+    Strict::Unexplained
+}
+
+// Strict reading in a form: it refuses what ordinary reading refuses, and accepts exactly what the
+// writer writes again of what was read.
+fn strict_in(
+    s: &[u8],
+    channels: usize,
+    fixed: bool,
+    r: SavRead,
+    counts: &[i32],
+    qualities: &[u32],
+) -> Strict {
+    let mut own_counts = [0i32; 192];
+    let mut own_qualities = [0u32; 192];
+    let strict = strict_smv::read_strict(s, channels, fixed, &mut own_counts, &mut own_qualities);
+    if r.number != 0 {
+        return refused_if(strict.number == r.number && strict.place == r.place);
+    }
+    let again = written_again(s, channels, fixed, r, counts, qualities);
+    if strict.number == 6 {
+        return refused_if(!again);
+    }
+    accepted_if(strict.number == 0 && again)
+}
+
+// The class, with strict reading in both forms.
 fn by_strict(
     found: usize,
     s: &[u8],
@@ -296,32 +354,21 @@ fn by_strict(
     counts: &[i32],
     qualities: &[u32],
 ) -> usize {
-    let mut own_counts = [0i32; 192];
-    let mut own_qualities = [0u32; 192];
-    let strict = strict_smv::read_strict(s, channels, &mut own_counts, &mut own_qualities);
-    if r.number != 0 {
-        if strict.number != r.number {
-            return class::UNEXPLAINED;
-        }
-        if strict.place != r.place {
-            return class::UNEXPLAINED;
-        }
-        return found;
+    let shortest = strict_in(s, channels, false, r, counts, qualities);
+    let fixed = strict_in(s, channels, true, r, counts, qualities);
+    match shortest {
+        Strict::Unexplained => class::UNEXPLAINED,
+        Strict::Refused => match fixed {
+            Strict::Unexplained => class::UNEXPLAINED,
+            Strict::Refused => found,
+            Strict::Accepted => class::strictly(found, class::FIXED, class::FIXED_LOSSY),
+        },
+        Strict::Accepted => match fixed {
+            Strict::Unexplained => class::UNEXPLAINED,
+            Strict::Refused => class::strictly(found, class::SHORTEST, class::SHORTEST_LOSSY),
+            Strict::Accepted => class::strictly(found, class::BOTH, class::BOTH_LOSSY),
+        },
     }
-    let again = written_again(s, channels, r, counts, qualities);
-    if strict.number == 6 {
-        if again {
-            return class::UNEXPLAINED;
-        }
-        return found;
-    }
-    if strict.number != 0 {
-        return class::UNEXPLAINED;
-    }
-    if !again {
-        return class::UNEXPLAINED;
-    }
-    class::strictly(found)
 }
 
 pub fn frame(request: &[u8], theirs: &[u8], out: &mut [u8]) -> usize {

@@ -48,7 +48,15 @@ fn write(
     out_of_range: bool,
 ) -> usize {
     let mut frame = [0u8; SavPdu::MAX_FRAME];
-    let written = encode_smv::encode_smv(header, pdu, channels, counts, qualities, &mut frame);
+    let written = encode_smv::encode_smv(
+        header,
+        pdu,
+        channels,
+        false,
+        counts,
+        qualities,
+        &mut frame,
+    );
     put_frame(out, written, out_of_range, &frame)
 }
 
@@ -63,7 +71,15 @@ fn same_of_values(
 ) -> bool {
     let mut again = [0u8; SavPdu::MAX_FRAME + 1];
     let mut frame = [0u8; SavPdu::MAX_FRAME];
-    let written = encode_values::encode_values(header, pdu, config, values, qualities, &mut frame);
+    let written = encode_values::encode_values(
+        header,
+        pdu,
+        config,
+        false,
+        values,
+        qualities,
+        &mut frame,
+    );
     let at = put_frame(&mut again, written, false, &frame);
     check::same(ours, first(&again, at))
 }
@@ -142,7 +158,7 @@ pub fn size(request: &[u8], theirs: &[u8], out: &mut [u8]) -> usize {
     let channels = description::channels(request);
     let header = description::header(request);
     let pdu = description::pdu(request);
-    let sized = encode_smv::smv_size(header, pdu, channels);
+    let sized = encode_smv::smv_size(header, pdu, channels, false);
     let Written::At(n) = sized else {
         let at = put_refusal(out, writing_class::refused_as(sized), 0);
         return writing_class::class_of(request, theirs, first(out, at), false);

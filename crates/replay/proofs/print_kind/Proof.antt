@@ -5,10 +5,10 @@ use Rattle.replay.proofs.print_kind.Statement.{statement}
 use Rattle.replay.proofs.print_kind.Tie as tie
 
 abbrev Inv-loop : tie.InvT-loop
-Inv-loop kind counts class₀ class = class ≤ 32
+Inv-loop kind counts class₀ class = class ≤ 33
 
 abbrev μ-loop : tie.MeasureT-loop
-μ-loop kind counts class₀ class = 32 - class
+μ-loop kind counts class₀ class = 33 - class
 
 loop-holds : tie.Need-loop-holds Inv-loop μ-loop
 loop-holds c = search needs

@@ -7,13 +7,16 @@ use Rattle.conformance_check.proofs.line.octets_of.Statement.{statement
 use Rattle.conformance_check.proofs.line.octets_of.Tie as tie
 
 abbrev Inv-loop : tie.InvT-loop
-Inv-loop word out₀ pairs i₀ out i = (length out ≡ length out₀) × (i ≤ pairs)
+Inv-loop word out₀ at pairs i₀ out i = (length out ≡ length out₀) × (i ≤ pairs)
 
 abbrev μ-loop : tie.MeasureT-loop
-μ-loop word out₀ pairs i₀ out i = pairs - i
+μ-loop word out₀ at pairs i₀ out i = pairs - i
 
 loop-holds : tie.Need-loop-holds Inv-loop μ-loop
 loop-holds c = search needs
+
+plus-requires : tie.Need-plus-requires Inv-loop μ-loop
+plus-requires c κs = search needs
 
 pair-requires : tie.Need-pair-requires Inv-loop μ-loop
 pair-requires c κs = search needs
@@ -43,6 +46,7 @@ octets-of-spec =
     Inv-loop
     μ-loop
     loop-holds
+    plus-requires
     pair-requires
     put-requires
     add-i
