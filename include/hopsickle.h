@@ -8,7 +8,8 @@
  *
  * fixed is the form of the counters of every ASDU. true: smpCnt has two octets, confRev four and
  * smpSynch one, always, highest octet first. false: the fewest octets whose first is below 80
- * (hexadecimal), as every other integer of the frame. hopsickle_read and hopsickle_decode take both.
+ * (hexadecimal), as every other integer of the frame. hopsickle_read, hopsickle_read_granted and
+ * hopsickle_decode take both.
  *
  * Every function answers 0 where it accepts, else the number of a refusal, and then the only thing
  * it has written is the place or the size. hopsickle_is_smv alone answers a bool.
@@ -151,6 +152,27 @@ size_t hopsickle_read(const uint8_t *frame, size_t frame_len, size_t channels,
                       int32_t *counts, size_t counts_len,
                       uint32_t *qualities, size_t qualities_len,
                       size_t *place);
+
+/*
+ * Reads a frame for a customer to whom some of its channels are granted. Channel i is shown where bit
+ * i of mask is set and i is below channels, else hidden; other bits do nothing. Writes numbers and
+ * octets as hopsickle_read does, and of the samples the counts and quality words of the n shown
+ * channels alone, ASDU by ASDU and in the order of the channels: the k-th (from 0) of ASDU i stands at
+ * i * n + k. These are noASDU * n counts and as many quality words; nothing past them.
+ * Refused: as hopsickle_read, with 7 by noASDU * n counts and quality words. Where no channel is shown,
+ * arrays without elements are enough for them.
+ * Two frames of equal length that differ only in the count and quality octets of hidden channels, read
+ * with the same channels and mask into arrays of the same lengths, have the same answer: number, place
+ * and every element that is written, also where they are refused.
+ * hopsickle_read_strict is not for customers: it looks at all bits of all quality words, so what it
+ * refuses tells of hidden channels.
+ */
+size_t hopsickle_read_granted(const uint8_t *frame, size_t frame_len, size_t channels, uint32_t mask,
+                              uint32_t *numbers, size_t numbers_len,
+                              uint8_t *octets, size_t octets_len,
+                              int32_t *counts, size_t counts_len,
+                              uint32_t *qualities, size_t qualities_len,
+                              size_t *place);
 
 /*
  * Reads a PDU from the octet at on, as hopsickle_read does after the header. The numbers and octets

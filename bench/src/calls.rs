@@ -79,6 +79,37 @@ pub fn flat_strict_fixed(case: &Case) -> Call<'_> {
     Box::new(move |n| (0..n).for_each(|i| read(Some(true), case, i, &mut to)))
 }
 
+/// Reads a frame with the channels of a mask.
+fn read_granted(mask: u32, case: &Case, i: usize, to: &mut Flat) {
+    let frame = black_box(&case.frames[i % FRAMES].frame[..]);
+    let mut place = 0;
+    let Flat { numbers, octets, counts, qualities, .. } = &mut *to;
+    let number = sys::read_granted(
+        frame,
+        case.shape.channels,
+        black_box(mask),
+        numbers,
+        octets,
+        counts,
+        qualities,
+        &mut place,
+    );
+    assert_eq!(number, 0);
+    black_box(to);
+}
+
+pub fn flat_granted_all(case: &Case) -> Call<'_> {
+    let mut to = Flat::new();
+    Box::new(move |n| (0..n).for_each(|i| read_granted(u32::MAX, case, i, &mut to)))
+}
+
+/// The last channel alone.
+pub fn flat_granted_one(case: &Case) -> Call<'_> {
+    let mut to = Flat::new();
+    let mask = 1 << (case.shape.channels - 1);
+    Box::new(move |n| (0..n).for_each(|i| read_granted(mask, case, i, &mut to)))
+}
+
 pub fn flat_reading_values(case: &Case) -> Call<'_> {
     let mut to = Flat::new();
     Box::new(move |n| {

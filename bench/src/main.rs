@@ -19,11 +19,21 @@ struct Comparison {
     project: Make,
 }
 
-const COMPARISONS: [Comparison; 11] = [
+const COMPARISONS: [Comparison; 13] = [
     Comparison {
         name: "Reading: the original's records with values; hopsickle_read, all arrays",
         original: calls::original_reading,
         project: calls::flat_reading,
+    },
+    Comparison {
+        name: "Granted reading, all channels: the same; hopsickle_read_granted",
+        original: calls::original_reading,
+        project: calls::flat_granted_all,
+    },
+    Comparison {
+        name: "Granted reading, one channel: the same, which reads all; hopsickle_read_granted",
+        original: calls::original_reading,
+        project: calls::flat_granted_one,
     },
     Comparison {
         name: "Reading with values: the same; hopsickle_read, then hopsickle_values",

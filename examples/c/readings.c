@@ -1,10 +1,13 @@
-/* Writes a 9-2LE frame of one ASDU in both forms, reads the fixed one strictly, and prints its readings. */
+/* Writes a 9-2LE frame of one ASDU in both forms, reads the fixed one strictly, and prints its readings;
+ * then reads it for a customer to whom two of its channels are granted. */
 #include <stdio.h>
 #include <string.h>
 
 #include "hopsickle.h"
 
 #define CHANNELS 8
+#define SHOWN 2
+#define MASK 0x11u /* bits 0 and 4: Ia and Ua */
 
 static const char *const names[CHANNELS] = {"Ia", "Ib", "Ic", "In", "Ua", "Ub", "Uc", "Un"};
 static const float scales[CHANNELS] = {0.0001f, 0.0001f, 0.0001f, 0.0001f, 0.01f, 0.01f, 0.01f, 0.01f};
@@ -51,7 +54,9 @@ int main(void)
     int32_t counts[HOPSICKLE_MAX_SAMPLES];
     uint32_t qualities[HOPSICKLE_MAX_SAMPLES];
     float values[HOPSICKLE_MAX_SAMPLES];
-    size_t number, size, place, written, i, j;
+    int32_t shown_counts[SHOWN]; /* of one ASDU */
+    uint32_t shown_qualities[SHOWN];
+    size_t number, size, place, written, i, j, k;
 
     number = write_frame(false, frame, sizeof frame, &size);
     if (number != HOPSICKLE_ACCEPTED)
@@ -84,5 +89,17 @@ int main(void)
             printf("%s %10ld %11.4f %04lx\n", names[j], (long)counts[i * CHANNELS + j],
                    (double)values[i * CHANNELS + j], (unsigned long)qualities[i * CHANNELS + j]);
     }
+
+    number = hopsickle_read_granted(frame, size, CHANNELS, MASK, numbers, HOPSICKLE_MAX_NUMBERS,
+                                    octets, HOPSICKLE_MAX_OCTETS, shown_counts, SHOWN,
+                                    shown_qualities, SHOWN, &place);
+    if (number != HOPSICKLE_ACCEPTED)
+        return refused("hopsickle_read_granted", number, place);
+    printf("granted, mask %02x\n", MASK);
+    for (j = 0, k = 0; j < CHANNELS; j++)
+        if (MASK >> j & 1) {
+            printf("%s %10ld %04lx\n", names[j], (long)shown_counts[k], (unsigned long)shown_qualities[k]);
+            k++;
+        }
     return 0;
 }

@@ -1,7 +1,9 @@
 //! A frame in the arrays that cross to the library, between the octets and the records.
 
 use crate::sys::*;
-use crate::types::{EthernetHeader, Quality, Sample, SavAsdu, SavDataSetConfig, SavPdu};
+use crate::types::{
+    EthernetHeader, Quality, Sample, SavAsdu, SavDataSetConfig, SavPdu, SavValueConfig,
+};
 use crate::{Form, Refusal};
 use std::cell::RefCell;
 use std::ops::Range;
@@ -81,6 +83,32 @@ impl Frame {
         self.read_as(Some(form), frame, config)
     }
 
+    /// Reads a frame of this data set, and of its channels those alone whose bit of `mask` is set; bits
+    /// beyond the data set do nothing. What was read is then a frame of the shown channels: their
+    /// number, counts, values, quality words and scale factors, in their order. See
+    /// [`crate::read_granted`].
+    pub fn read_granted(
+        &mut self,
+        frame: &[u8],
+        config: &SavDataSetConfig,
+        mask: u32,
+    ) -> Result<(), Refusal> {
+        let mut place = 0;
+        let number = read_granted(
+            frame,
+            config.config.len(),
+            mask,
+            &mut self.numbers,
+            &mut self.octets,
+            &mut self.counts,
+            &mut self.qualities,
+            &mut place,
+        );
+        Refusal::check(number, place)?;
+        let shown = config.config.iter().enumerate().filter(|(i, _)| mask >> i & 1 == 1);
+        self.scale(shown.map(|(_, channel)| channel))
+    }
+
     fn read_as(
         &mut self,
         strict: Option<Form>,
@@ -99,7 +127,7 @@ impl Frame {
             &mut place,
         );
         Refusal::check(number, place)?;
-        self.scale(data)
+        self.scale(data.config.iter())
     }
 
     /// Reads a PDU from a place on.
@@ -130,14 +158,18 @@ impl Frame {
             )
         };
         Refusal::check(number, place)?;
-        self.scale(data)
+        self.scale(data.config.iter())
     }
 
-    /// The values of the counts that were read.
-    fn scale(&mut self, data: &SavDataSetConfig) -> Result<(), Refusal> {
-        self.channels = data.config.len();
-        for (scale, channel) in self.scales.iter_mut().zip(&data.config) {
+    /// The values of the counts that were read, which are those of these channels.
+    fn scale<'a>(
+        &mut self,
+        channels: impl Iterator<Item = &'a SavValueConfig>,
+    ) -> Result<(), Refusal> {
+        self.channels = 0;
+        for (scale, channel) in self.scales.iter_mut().zip(channels) {
             *scale = channel.scale_factor;
+            self.channels += 1;
         }
         let mut written = 0;
         // SAFETY: as in `decode`; what was read has at most 24 channels, and so many scale factors
@@ -166,7 +198,7 @@ impl Frame {
         self.numbers[NO_ASDU] as usize
     }
 
-    /// The number of channels of each ASDU.
+    /// The number of channels of each ASDU; after granted reading, of those that are shown.
     pub fn channels(&self) -> usize {
         self.channels
     }

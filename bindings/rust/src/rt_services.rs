@@ -74,6 +74,20 @@ pub fn read_strict(frame: &[u8], config: &SavDataSetConfig, form: Form) -> Resul
     Ok(read)
 }
 
+/// Reads a frame of this data set for a customer to whom some of its channels are granted: channel i
+/// is shown where bit i of `mask` is set, else hidden; bits beyond the data set do nothing. The frame
+/// that is answered has the samples of the shown channels alone, in their order. All else in it, and
+/// the refusals, are those of [`read_frame`].
+///
+/// Two frames of equal length that differ only in the count and quality octets of hidden channels
+/// have the same answer. [`read_strict`] is not for customers: it looks at all bits of all quality
+/// words, so what it refuses tells of hidden channels.
+pub fn read_granted(frame: &[u8], config: &SavDataSetConfig, mask: u32) -> Result<Frame, Refusal> {
+    let mut read = Frame::default();
+    read.read_granted(frame, config, mask)?;
+    Ok(read)
+}
+
 /// How many octets the writers write in this form, whatever the values or counts.
 pub fn smv_size(header: &EthernetHeader, pdu: &SavPdu, form: Form) -> Result<usize, Refusal> {
     with_scratch(|(described, _)| {

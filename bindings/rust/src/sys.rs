@@ -29,6 +29,22 @@ extern "C" {
         place: *mut usize,
     ) -> usize;
 
+    pub fn hopsickle_read_granted(
+        frame: *const u8,
+        frame_len: usize,
+        channels: usize,
+        mask: u32,
+        numbers: *mut u32,
+        numbers_len: usize,
+        octets: *mut u8,
+        octets_len: usize,
+        counts: *mut i32,
+        counts_len: usize,
+        qualities: *mut u32,
+        qualities_len: usize,
+        place: *mut usize,
+    ) -> usize;
+
     pub fn hopsickle_decode(
         frame: *const u8,
         frame_len: usize,
@@ -145,6 +161,40 @@ pub fn read(
                 s, s_len, channels, fixed, n, n_len, o, o_len, c, c_len, q, q_len, place,
             ),
         }
+    }
+}
+
+/// `hopsickle_read_granted` over slices: of the samples, those of the channels whose bit of `mask` is
+/// set.
+#[inline]
+#[allow(clippy::too_many_arguments)]
+pub fn read_granted(
+    frame: &[u8],
+    channels: usize,
+    mask: u32,
+    numbers: &mut [u32],
+    octets: &mut [u8],
+    counts: &mut [i32],
+    qualities: &mut [u32],
+    place: &mut usize,
+) -> usize {
+    // SAFETY: as in `read`.
+    unsafe {
+        hopsickle_read_granted(
+            frame.as_ptr(),
+            frame.len(),
+            channels,
+            mask,
+            numbers.as_mut_ptr(),
+            numbers.len(),
+            octets.as_mut_ptr(),
+            octets.len(),
+            counts.as_mut_ptr(),
+            counts.len(),
+            qualities.as_mut_ptr(),
+            qualities.len(),
+            place,
+        )
     }
 }
 

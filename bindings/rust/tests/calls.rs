@@ -248,6 +248,60 @@ fn strict_reading() {
 }
 
 #[test]
+fn granted_reading() {
+    let (header, mut pdu) = full();
+    for (asdu, word) in pdu.sav_asdu.iter_mut().zip([0x40, 0x80]) {
+        asdu.all_data = samples(&[0.0; 4], 1.0);
+        for (sample, word) in asdu.all_data.iter_mut().zip(word..) {
+            sample.quality = Quality::from_sv(word);
+        }
+    }
+    let counts = [1, 2, 3, 4, 5, 6, 7, 8];
+    let octets = encode_counts(&header, &pdu, &counts, Form::Shortest).unwrap();
+    let data = data_set(&[1.0, 0.5, 2.0, 4.0]);
+    let all = read_frame(&octets, &data).unwrap();
+    let frame = read_granted(&octets, &data, 0b1010).unwrap();
+    assert_eq!((frame.no_asdu(), frame.channels()), (2, 2));
+    assert_eq!(frame.counts(), [2, 4, 6, 8]);
+    assert_eq!(frame.values(), [1.0, 16.0, 3.0, 32.0]);
+    assert_eq!(frame.qualities(), [0x41, 0x43, 0x81, 0x83]);
+
+    // All else is as ordinary reading has it.
+    assert_eq!(frame.header(), all.header());
+    assert_eq!((frame.sv_id(1), frame.dat_set(1)), (all.sv_id(1), all.dat_set(1)));
+    let mut shown = all.pdu();
+    for asdu in &mut shown.sav_asdu {
+        asdu.all_data = vec![asdu.all_data[1].clone(), asdu.all_data[3].clone()];
+    }
+    assert_eq!(frame.pdu(), shown);
+
+    // Bits beyond the data set do nothing.
+    assert_eq!(read_granted(&octets, &data, 0xffff_fffa).unwrap().pdu(), shown);
+    assert_eq!(read_granted(&octets, &data, 0b1111).unwrap().pdu(), all.pdu());
+    let none = read_granted(&octets, &data, 0xffff_fff0).unwrap();
+    assert_eq!((none.no_asdu(), none.channels(), none.counts()), (2, 0, &[][..]));
+    assert_eq!(none.sv_id(1), all.sv_id(1));
+
+    // What was read is written again as a frame of the shown channels.
+    let mut again = [0; sys::MAX_FRAME];
+    let size = frame.write(Form::Shortest, &mut again).unwrap();
+    let strict = read_strict(&again[..size], &data_set(&[0.5, 4.0]), Form::Shortest).unwrap();
+    assert_eq!(strict.pdu(), shown);
+
+    // A refusal leaves what was read before, and an ordinary reading after it has all channels. Behind
+    // the last sample stand 13 octets, smpMod and gmIdentity.
+    let mut frame = frame;
+    let last = octets.len() - 13 - 8;
+    assert_eq!(frame.read_granted(&octets[..last + 7], &data, 1), Err(refusal(1, last)));
+    assert_eq!(read_frame(&octets[..last + 7], &data).err(), Some(refusal(1, last)));
+    assert_eq!(frame.read_granted(&octets, &data_set(&[1.0; 25]), 0), Err(refusal(8, 0)));
+    assert_eq!(frame.pdu(), shown);
+    frame.read(&octets, &data).unwrap();
+    assert_eq!((frame.channels(), frame.counts()), (4, &counts[..]));
+    assert_eq!(frame.pdu(), all.pdu());
+}
+
+#[test]
 fn one_frame_for_many_readings() {
     let (header, pdu) = full();
     let octets = encode_smv(&header, &pdu).unwrap();

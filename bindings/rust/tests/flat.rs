@@ -1,37 +1,13 @@
 //! The functions of the library as C calls them: which elements of the lent arrays are written, and
 //! 7 for each array that is too short. The frames are generated ones.
 
-use hopsickle::sys::*;
-use oracle::generate::{request, Random};
-use oracle::layout::Cursor;
+mod arrays;
 
-/// The arrays of a reading, filled with what no reading leaves.
-#[derive(Clone, PartialEq, Debug)]
-struct Arrays {
-    numbers: Vec<u32>,
-    octets: Vec<u8>,
-    counts: Vec<i32>,
-    qualities: Vec<u32>,
-    place: usize,
-}
+use arrays::{frames, Arrays};
+use hopsickle::sys::*;
+use oracle::generate::Random;
 
 impl Arrays {
-    fn of(numbers: usize, octets: usize, counts: usize, qualities: usize) -> Arrays {
-        Arrays {
-            numbers: vec![0xdead_beef; numbers],
-            octets: vec![0xa5; octets],
-            counts: vec![0x5a5a_5a5a; counts],
-            qualities: vec![0xdead_beef; qualities],
-            place: 77,
-        }
-    }
-
-    /// Reads a frame: the ordinary way, or strictly, shortest or fixed.
-    fn read(&mut self, strict: Option<bool>, frame: &[u8], channels: usize) -> usize {
-        let Arrays { numbers, octets, counts, qualities, place } = self;
-        read(strict, frame, channels, numbers, octets, counts, qualities, place)
-    }
-
     fn decode(&mut self, frame: &[u8], at: usize, channels: usize) -> usize {
         // SAFETY: each pointer is that of a slice of as many elements as are named after it.
         unsafe {
@@ -122,17 +98,6 @@ impl Arrays {
         };
         (number, size)
     }
-
-    /// With one element less in one of the arrays that has any: all ways.
-    fn shorter(&self) -> Vec<Arrays> {
-        let mut all = vec![self.clone(); 4];
-        all[0].numbers.pop();
-        all[1].octets.pop();
-        all[2].counts.pop();
-        all[3].qualities.pop();
-        all.retain(|one| one != self);
-        all
-    }
 }
 
 fn values(scales: &[f32], no_asdu: u16, counts: &[i32], values: &mut [f32]) -> (usize, usize) {
@@ -153,23 +118,10 @@ fn values(scales: &[f32], no_asdu: u16, counts: &[i32], values: &mut [f32]) -> (
     (number, written)
 }
 
-/// Frames with a number of channels, of the generator.
-fn frames(count: usize) -> impl Iterator<Item = (usize, Vec<u8>)> {
-    let mut random = Random(5);
-    let requests = std::iter::repeat_with(move || request(&mut random));
-    let frames = requests.filter(|asked| asked.kind == b'f').map(|asked| {
-        let mut octets = Cursor(&asked.octets);
-        let channels = usize::from(octets.u8().expect("a data set"));
-        octets.octets(4 * channels).expect("a data set");
-        (channels, octets.0.to_vec())
-    });
-    frames.take(count)
-}
-
 #[test]
 fn reading() {
     let mut accepted = [0; 3];
-    for (channels, frame) in frames(20_000) {
+    for (channels, frame) in frames(Random(5)).take(20_000) {
         for (strict, accepted) in [None, Some(false), Some(true)].into_iter().zip(&mut accepted) {
             // Enough for every frame, and more.
             let before =
@@ -237,7 +189,7 @@ fn header() {
         };
         (number, place)
     };
-    for (channels, frame) in frames(2_000) {
+    for (channels, frame) in frames(Random(5)).take(2_000) {
         let (mut numbers, mut octets) = ([9; 8], [9; 14]);
         let (number, place) = call(&frame, &mut numbers, &mut octets);
         if number != 0 {
@@ -262,7 +214,8 @@ fn header() {
 #[test]
 fn writing() {
     for fixed in [false, true] {
-        let written = frames(20_000).filter(|(channels, frame)| written(*channels, fixed, frame));
+        let frames = frames(Random(5)).take(20_000);
+        let written = frames.filter(|(channels, frame)| written(*channels, fixed, frame));
         assert!(500 < written.count());
     }
 }

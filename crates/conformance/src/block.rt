@@ -1,4 +1,4 @@
-// The two kinds of block.
+// The kinds of block.
 use crate::describe;
 use crate::print::decimal;
 use crate::print::say;
@@ -16,7 +16,7 @@ fn written(answer: Written, frame: &[u8]) {
     }
 }
 
-fn title(kind: &[u8], name: &[u8]) {
+pub fn title(kind: &[u8], name: &[u8]) {
     say(b"\n");
     say(kind);
     say(name);
@@ -56,7 +56,7 @@ pub fn frame(
 }
 
 // The answer of a reading: number 0 is accepted.
-fn answered(reading: &[u8], number: usize, place: usize) {
+pub fn answered(reading: &[u8], number: usize, place: usize) {
     say(reading);
     if number == 0 {
         say(b" accepted\n");
@@ -70,7 +70,7 @@ fn answered(reading: &[u8], number: usize, place: usize) {
 }
 
 // What was read.
-fn found(got: SavRead, channels: usize, counts: &[i32], qualities: &[u32]) {
+pub fn found(got: SavRead, channels: usize, counts: &[i32], qualities: &[u32]) {
     let header = got.header;
     let sav_asdu = got.sav_asdu;
     let security_octets = got.security_octets;

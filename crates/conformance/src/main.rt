@@ -4,6 +4,7 @@ mod block;
 mod calls;
 mod describe;
 mod frames;
+mod grants;
 mod octets;
 mod print;
 mod reads;
@@ -23,6 +24,7 @@ fn main() {
     refusals::print();
     reads::print();
     calls::print();
+    grants::print();
 }
 
 // The first lines: what blocks there are.
@@ -51,7 +53,18 @@ fn print_format() {
     );
     say(b"#   length N           Length as it was read\n");
     say(b"#   the lines of the description that was read\n");
+    print_granted();
     say(b"#\n");
+}
+
+// The first lines: the block of a granted reading.
+fn print_granted() {
+    say(b"# granted NAME       what granted reading answers\n");
+    say(
+        b"#   channels N, mask HEX, counts N, qualities N, the arrays' numbers of elements, octets HEX\n",
+    );
+    say(b"#   granted accepted, or granted refused N P, and where it accepts\n");
+    say(b"#   length N and the lines of the description, with a sample for each shown channel\n");
 }
 
 // The first lines: the words of a description.

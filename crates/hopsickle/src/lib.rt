@@ -11,6 +11,7 @@ ghost use Rattle.definition.specs.Frame.{frameOctets};
 ghost use Rattle.definition.specs.Answers.{over};
 ghost use Rattle.definition.specs.Scaling.{valuesAnswer, valuesOf};
 ghost use Rattle.definition.specs.Flat.{headerNumbers, headerOctets, numbersOfHeader, octetsOfHeader, flatDescription, flatHeader, flatRead, flatDecode, flatStrict, flatEncode, flatEncodeValues, flatSize, numberOf, besideIt};
+ghost use Rattle.grant.specs.Grant.{flatGranted};
 ghost use Rattle.rt_services.specs.Describe.{headerOf};
 ghost use Rattle.ber_encode.specs.Told.{told};
 ghost use Rattle.flat_encode.specs.Values.{countsFor, countsIn, describedBy};
@@ -164,6 +165,34 @@ pub extern "C" fn hopsickle_read_strict(
         (now (numbers .entry)) (now (numbers .exit)) (now (octets .entry)) (now (octets .exit)) (now (counts .entry)) (now (counts .exit)) (now (qualities .entry)) (now (qualities .exit)) r (now (place .exit)) ⌝ }
 {
     let read = flat_strict::read_strict(frame, channels, fixed, numbers, octets, counts, qualities);
+    answer(read, place)
+}
+
+// A frame, the ordinary way, for a customer: the counts and quality words of the channels that the
+// mask shows, and of no other.
+#[no_mangle]
+pub extern "C" fn hopsickle_read_granted(
+    frame: &[u8],
+    channels: usize,
+    mask: u32,
+    numbers: &mut [u32],
+    octets: &mut [u8],
+    counts: &mut [i32],
+    qualities: &mut [u32],
+    place: &mut usize,
+) -> usize
+    ensures { λ r. ⌜ Reads (flatGranted channels mask (length (now (numbers .entry))) (length (now (octets .entry))) (length (now (counts .entry))) (length (now (qualities .entry))) (now (frame .entry)))
+        (now (numbers .entry)) (now (numbers .exit)) (now (octets .entry)) (now (octets .exit)) (now (counts .entry)) (now (counts .exit)) (now (qualities .entry)) (now (qualities .exit)) r (now (place .exit)) ⌝ }
+{
+    let read = flat_granted::read_granted(
+        frame,
+        channels,
+        mask,
+        numbers,
+        octets,
+        counts,
+        qualities,
+    );
     answer(read, place)
 }
 
