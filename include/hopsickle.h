@@ -8,8 +8,8 @@
  *
  * fixed is the form of the counters of every ASDU. true: smpCnt has two octets, confRev four and
  * smpSynch one, always, highest octet first. false: the fewest octets whose first is below 80
- * (hexadecimal), as every other integer of the frame. hopsickle_read, hopsickle_read_granted and
- * hopsickle_decode take both.
+ * (hexadecimal), as every other integer of the frame. hopsickle_read, hopsickle_read_checked,
+ * hopsickle_read_granted and hopsickle_decode take both.
  *
  * Every function answers 0 where it accepts, else the number of a refusal, and then the only thing
  * it has written is the place or the size. hopsickle_is_smv alone answers a bool.
@@ -66,6 +66,12 @@ extern "C" {
                                          is neither 0 nor 1, or a number beyond its field's width */
 #define HOPSICKLE_TOO_LONG_TO_WRITE 10  /* a PDU above 1,492 octets */
 #define HOPSICKLE_VALUE_OUT_OF_RANGE 11 /* a scaled value below -2^31 or above 2^31 */
+
+/* By a frame and a number of channels that don't match. The place is an octet's index from the first
+ * octet that was lent. */
+#define HOPSICKLE_LENGTHS_DIFFER 13 /* checked reading only: in an ASDU the length after 87 (hexadecimal) is
+                                       not 8 times the channels; the octet after that length in the
+                                       earliest such ASDU */
 
 /* ---- places in the numbers. A mark is 1 where the field is there, else 0; reading puts 0 behind a
  * mark of 0, and writing doesn't look there. */
@@ -152,6 +158,20 @@ size_t hopsickle_read(const uint8_t *frame, size_t frame_len, size_t channels,
                       int32_t *counts, size_t counts_len,
                       uint32_t *qualities, size_t qualities_len,
                       size_t *place);
+
+/*
+ * Reads a frame and checks that the channels match it: as hopsickle_read, and accepted only if in every
+ * ASDU the length after 87 (hexadecimal) is 8 times the channels. The length is a number, however many
+ * octets it takes: 87 81 08 is that of one channel. A frame without ASDUs has nothing to check. Every
+ * frame that hopsickle_read_strict accepts, in either form, is accepted.
+ * Refused: as hopsickle_read; then 13.
+ */
+size_t hopsickle_read_checked(const uint8_t *frame, size_t frame_len, size_t channels,
+                              uint32_t *numbers, size_t numbers_len,
+                              uint8_t *octets, size_t octets_len,
+                              int32_t *counts, size_t counts_len,
+                              uint32_t *qualities, size_t qualities_len,
+                              size_t *place);
 
 /*
  * Reads a frame for a customer to whom some of its channels are granted. Channel i is shown where bit

@@ -44,29 +44,42 @@ pub fn original_writing(case: &Case) -> Call<'_> {
 
 // ---- the flat functions, into arrays that are not cleared between calls
 
+/// Reads a frame by a function of `sys`.
+fn read_by(
+    frame: &[u8],
+    channels: usize,
+    to: &mut Flat,
+    call: impl Fn(&[u8], usize, &mut [u32], &mut [u8], &mut [i32], &mut [u32], &mut usize) -> usize,
+) {
+    let mut place = 0;
+    let Flat { numbers, octets, counts, qualities, .. } = &mut *to;
+    let number = call(black_box(frame), channels, numbers, octets, counts, qualities, &mut place);
+    assert_eq!(number, 0);
+    black_box(to);
+}
+
 /// Reads a frame: the ordinary way, or strictly, shortest or fixed.
 fn read(strict: Option<bool>, case: &Case, i: usize, to: &mut Flat) {
     let one = &case.frames[i % FRAMES];
-    let frame = black_box(if strict == Some(true) { &one.fixed[..] } else { &one.frame[..] });
-    let mut place = 0;
-    let Flat { numbers, octets, counts, qualities, .. } = &mut *to;
-    let number = sys::read(
-        strict,
-        frame,
-        case.shape.channels,
-        numbers,
-        octets,
-        counts,
-        qualities,
-        &mut place,
-    );
-    assert_eq!(number, 0);
-    black_box(to);
+    let frame = if strict == Some(true) { &one.fixed[..] } else { &one.frame[..] };
+    read_by(frame, case.shape.channels, to, |s, channels, n, o, c, q, place| {
+        sys::read(strict, s, channels, n, o, c, q, place)
+    });
 }
 
 pub fn flat_reading(case: &Case) -> Call<'_> {
     let mut to = Flat::new();
     Box::new(move |n| (0..n).for_each(|i| read(None, case, i, &mut to)))
+}
+
+pub fn flat_checked(case: &Case) -> Call<'_> {
+    let mut to = Flat::new();
+    Box::new(move |n| {
+        for i in 0..n {
+            let frame = &case.frames[i % FRAMES].frame;
+            read_by(frame, case.shape.channels, &mut to, sys::read_checked);
+        }
+    })
 }
 
 pub fn flat_strict(case: &Case) -> Call<'_> {
@@ -81,21 +94,10 @@ pub fn flat_strict_fixed(case: &Case) -> Call<'_> {
 
 /// Reads a frame with the channels of a mask.
 fn read_granted(mask: u32, case: &Case, i: usize, to: &mut Flat) {
-    let frame = black_box(&case.frames[i % FRAMES].frame[..]);
-    let mut place = 0;
-    let Flat { numbers, octets, counts, qualities, .. } = &mut *to;
-    let number = sys::read_granted(
-        frame,
-        case.shape.channels,
-        black_box(mask),
-        numbers,
-        octets,
-        counts,
-        qualities,
-        &mut place,
-    );
-    assert_eq!(number, 0);
-    black_box(to);
+    let frame = &case.frames[i % FRAMES].frame;
+    read_by(frame, case.shape.channels, to, |s, channels, n, o, c, q, place| {
+        sys::read_granted(s, channels, black_box(mask), n, o, c, q, place)
+    });
 }
 
 pub fn flat_granted_all(case: &Case) -> Call<'_> {

@@ -19,11 +19,16 @@ struct Comparison {
     project: Make,
 }
 
-const COMPARISONS: [Comparison; 13] = [
+const COMPARISONS: [Comparison; 14] = [
     Comparison {
         name: "Reading: the original's records with values; hopsickle_read, all arrays",
         original: calls::original_reading,
         project: calls::flat_reading,
+    },
+    Comparison {
+        name: "Checked reading: the same; hopsickle_read_checked",
+        original: calls::original_reading,
+        project: calls::flat_checked,
     },
     Comparison {
         name: "Granted reading, all channels: the same; hopsickle_read_granted",

@@ -1,5 +1,6 @@
 /* Writes a 9-2LE frame of one ASDU in both forms, reads the fixed one strictly, and prints its readings;
- * then reads it for a customer to whom two of its channels are granted. */
+ * then checks numbers of channels against it, and reads it for a customer to whom two of its channels
+ * are granted. */
 #include <stdio.h>
 #include <string.h>
 
@@ -46,6 +47,25 @@ static size_t write_frame(bool fixed, uint8_t *frame, size_t frame_len, size_t *
                            fixed, sent, CHANNELS, words, CHANNELS, frame, frame_len, size);
 }
 
+/* Reads a frame with so many channels, checks that they match it, and prints the answer. */
+static void print_checked(const uint8_t *frame, size_t size, size_t channels)
+{
+    uint32_t numbers[HOPSICKLE_MAX_NUMBERS];
+    uint8_t octets[HOPSICKLE_MAX_OCTETS];
+    int32_t counts[HOPSICKLE_MAX_SAMPLES];
+    uint32_t qualities[HOPSICKLE_MAX_SAMPLES];
+    size_t number, place;
+
+    number = hopsickle_read_checked(frame, size, channels, numbers, HOPSICKLE_MAX_NUMBERS,
+                                    octets, HOPSICKLE_MAX_OCTETS, counts, HOPSICKLE_MAX_SAMPLES,
+                                    qualities, HOPSICKLE_MAX_SAMPLES, &place);
+    if (number == HOPSICKLE_ACCEPTED)
+        printf("checked, %lu channels: accepted\n", (unsigned long)channels);
+    else
+        printf("checked, %lu channels: refused %lu at %lu\n", (unsigned long)channels,
+               (unsigned long)number, (unsigned long)place);
+}
+
 int main(void)
 {
     uint8_t frame[HOPSICKLE_MAX_FRAME];
@@ -89,6 +109,9 @@ int main(void)
             printf("%s %10ld %11.4f %04lx\n", names[j], (long)counts[i * CHANNELS + j],
                    (double)values[i * CHANNELS + j], (unsigned long)qualities[i * CHANNELS + j]);
     }
+
+    print_checked(frame, size, CHANNELS);
+    print_checked(frame, size, CHANNELS - 1);
 
     number = hopsickle_read_granted(frame, size, CHANNELS, MASK, numbers, HOPSICKLE_MAX_NUMBERS,
                                     octets, HOPSICKLE_MAX_OCTETS, shown_counts, SHOWN,

@@ -69,7 +69,13 @@ pub(crate) fn with_scratch<T>(work: impl FnOnce(&mut Scratch) -> T) -> T {
 impl Frame {
     /// Reads a frame of this data set the ordinary way. A refusal leaves what was read before.
     pub fn read(&mut self, frame: &[u8], config: &SavDataSetConfig) -> Result<(), Refusal> {
-        self.read_as(None, frame, config)
+        self.read_as(Reading::Ordinary, frame, config)
+    }
+
+    /// Reads a frame of this data set the ordinary way, and checks that the data set matches it. See
+    /// [`crate::read_checked`].
+    pub fn read_checked(&mut self, frame: &[u8], config: &SavDataSetConfig) -> Result<(), Refusal> {
+        self.read_as(Reading::Checked, frame, config)
     }
 
     /// Reads a frame of this data set strictly: only what the writer writes in this form is
@@ -80,7 +86,7 @@ impl Frame {
         config: &SavDataSetConfig,
         form: Form,
     ) -> Result<(), Refusal> {
-        self.read_as(Some(form), frame, config)
+        self.read_as(Reading::Strict { fixed: form.is_fixed() }, frame, config)
     }
 
     /// Reads a frame of this data set, and of its channels those alone whose bit of `mask` is set; bits
@@ -111,13 +117,13 @@ impl Frame {
 
     fn read_as(
         &mut self,
-        strict: Option<Form>,
+        reading: Reading,
         frame: &[u8],
         data: &SavDataSetConfig,
     ) -> Result<(), Refusal> {
         let mut place = 0;
-        let number = read(
-            strict.map(Form::is_fixed),
+        let number = read_as(
+            reading,
             frame,
             data.config.len(),
             &mut self.numbers,

@@ -3,25 +3,30 @@
 use std::fmt;
 
 /// A refusal: its number, and the place, an octet's index from the buffer's start. The place is 0
-/// from 7 on. The numbers are the associated constants.
+/// from 7 to 11. The numbers are the associated constants.
 #[derive(Debug, Clone, Copy, PartialEq, Eq)]
 pub struct Refusal {
     pub number: usize,
     pub place: usize,
 }
 
-const SENTENCES: [&str; 11] = [
-    "The octets end too soon.",
-    "A length octet is 80, or 84 to FF.",
-    "An integer is too long for its field.",
-    "noASDU is above 8, or svID, datSet or security is too long to hold.",
-    "gmIdentity is above 8 octets.",
-    "The frame is not what the writer writes.",
-    "A lent buffer or array is too short.",
-    "There are more than 24 channels.",
-    "The description is outside the limits.",
-    "The PDU is above 1,492 octets.",
-    "A scaled value is below -2^31 or above 2^31.",
+/// The numbers with their sentences.
+const SENTENCES: [(usize, &str); 12] = [
+    (Refusal::ENDS_TOO_SOON, "The octets end too soon."),
+    (Refusal::BAD_LENGTH, "A length octet is 80, or 84 to FF."),
+    (Refusal::INTEGER_TOO_LONG, "An integer is too long for its field."),
+    (
+        Refusal::TOO_LONG_TO_HOLD,
+        "noASDU is above 8, or svID, datSet or security is too long to hold.",
+    ),
+    (Refusal::GM_IDENTITY_TOO_LONG, "gmIdentity is above 8 octets."),
+    (Refusal::NOT_AS_WRITTEN, "The frame is not what the writer writes."),
+    (Refusal::NO_ROOM, "A lent buffer or array is too short."),
+    (Refusal::TOO_MANY_CHANNELS, "There are more than 24 channels."),
+    (Refusal::BAD_DESCRIPTION, "The description is outside the limits."),
+    (Refusal::TOO_LONG_TO_WRITE, "The PDU is above 1,492 octets."),
+    (Refusal::VALUE_OUT_OF_RANGE, "A scaled value is below -2^31 or above 2^31."),
+    (Refusal::LENGTHS_DIFFER, "In an ASDU the length after 87 is not 8 times the channels."),
 ];
 
 impl Refusal {
@@ -36,16 +41,18 @@ impl Refusal {
     pub const BAD_DESCRIPTION: usize = 9;
     pub const TOO_LONG_TO_WRITE: usize = 10;
     pub const VALUE_OUT_OF_RANGE: usize = 11;
+    pub const LENGTHS_DIFFER: usize = 13;
 
     /// What the number says.
     pub fn sentence(&self) -> &'static str {
-        SENTENCES.get(self.number.wrapping_sub(1)).copied().unwrap_or("The call was refused.")
+        let found = SENTENCES.iter().find(|(number, _)| *number == self.number);
+        found.map_or("The call was refused.", |(_, sentence)| sentence)
     }
 
     /// The refusal whose sentence this is.
     pub(crate) fn of_sentence(sentence: &str, place: usize) -> Option<Refusal> {
-        let index = SENTENCES.iter().position(|one| *one == sentence)?;
-        Some(Refusal { number: index + 1, place })
+        let (number, _) = SENTENCES.iter().find(|(_, one)| *one == sentence)?;
+        Some(Refusal { number: *number, place })
     }
 
     /// What a call of the library answered: 0 is acceptance.

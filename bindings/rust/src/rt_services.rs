@@ -66,6 +66,16 @@ pub fn read_frame(frame: &[u8], config: &SavDataSetConfig) -> Result<Frame, Refu
     Ok(read)
 }
 
+/// Reads a frame as [`read_frame`] does, and checks that this data set matches it: refused as 13 unless
+/// in every ASDU the length after 87 is 8 times the channels. The place is the octet after that length
+/// in the earliest ASDU where it differs. What [`read_frame`] refuses is refused alike, before that.
+/// Every frame that [`read_strict`] accepts is accepted.
+pub fn read_checked(frame: &[u8], config: &SavDataSetConfig) -> Result<Frame, Refusal> {
+    let mut read = Frame::default();
+    read.read_checked(frame, config)?;
+    Ok(read)
+}
+
 /// Reads a frame of this data set, and refuses it as 6 unless it is, from first to last octet, what
 /// the writer writes of what was read, in this form.
 pub fn read_strict(frame: &[u8], config: &SavDataSetConfig, form: Form) -> Result<Frame, Refusal> {

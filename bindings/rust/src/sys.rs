@@ -29,6 +29,21 @@ extern "C" {
         place: *mut usize,
     ) -> usize;
 
+    pub fn hopsickle_read_checked(
+        frame: *const u8,
+        frame_len: usize,
+        channels: usize,
+        numbers: *mut u32,
+        numbers_len: usize,
+        octets: *mut u8,
+        octets_len: usize,
+        counts: *mut i32,
+        counts_len: usize,
+        qualities: *mut u32,
+        qualities_len: usize,
+        place: *mut usize,
+    ) -> usize;
+
     pub fn hopsickle_read_granted(
         frame: *const u8,
         frame_len: usize,
@@ -132,11 +147,18 @@ extern "C" {
     ) -> usize;
 }
 
-/// `hopsickle_read`, or, where `strict` is the form, `hopsickle_read_strict`, over slices.
+/// How a frame is read with all its channels.
+pub(crate) enum Reading {
+    Ordinary,
+    Checked,
+    Strict { fixed: bool },
+}
+
+/// `hopsickle_read`, `hopsickle_read_checked` or `hopsickle_read_strict`, over slices.
 #[inline]
 #[allow(clippy::too_many_arguments)]
-pub fn read(
-    strict: Option<bool>,
+pub(crate) fn read_as(
+    reading: Reading,
     frame: &[u8],
     channels: usize,
     numbers: &mut [u32],
@@ -153,15 +175,49 @@ pub fn read(
     // SAFETY: every pointer is that of a slice of as many elements as are named after it, and those
     // to be written are borrowed exclusively.
     unsafe {
-        match strict {
-            None => {
+        match reading {
+            Reading::Ordinary => {
                 hopsickle_read(s, s_len, channels, n, n_len, o, o_len, c, c_len, q, q_len, place)
             }
-            Some(fixed) => hopsickle_read_strict(
+            Reading::Checked => hopsickle_read_checked(
+                s, s_len, channels, n, n_len, o, o_len, c, c_len, q, q_len, place,
+            ),
+            Reading::Strict { fixed } => hopsickle_read_strict(
                 s, s_len, channels, fixed, n, n_len, o, o_len, c, c_len, q, q_len, place,
             ),
         }
     }
+}
+
+/// `hopsickle_read`, or, where `strict` is the form, `hopsickle_read_strict`, over slices.
+#[inline]
+#[allow(clippy::too_many_arguments)]
+pub fn read(
+    strict: Option<bool>,
+    frame: &[u8],
+    channels: usize,
+    numbers: &mut [u32],
+    octets: &mut [u8],
+    counts: &mut [i32],
+    qualities: &mut [u32],
+    place: &mut usize,
+) -> usize {
+    let reading = strict.map_or(Reading::Ordinary, |fixed| Reading::Strict { fixed });
+    read_as(reading, frame, channels, numbers, octets, counts, qualities, place)
+}
+
+/// `hopsickle_read_checked` over slices.
+#[inline]
+pub fn read_checked(
+    frame: &[u8],
+    channels: usize,
+    numbers: &mut [u32],
+    octets: &mut [u8],
+    counts: &mut [i32],
+    qualities: &mut [u32],
+    place: &mut usize,
+) -> usize {
+    read_as(Reading::Checked, frame, channels, numbers, octets, counts, qualities, place)
 }
 
 /// `hopsickle_read_granted` over slices: of the samples, those of the channels whose bit of `mask` is
@@ -178,7 +234,7 @@ pub fn read_granted(
     qualities: &mut [u32],
     place: &mut usize,
 ) -> usize {
-    // SAFETY: as in `read`.
+    // SAFETY: as in `read_as`.
     unsafe {
         hopsickle_read_granted(
             frame.as_ptr(),

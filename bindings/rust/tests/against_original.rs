@@ -2,6 +2,9 @@
 //! them (300,000 where it isn't given) from HOPSICKLE_SEED (1). docs/DIFFERENCES.md has the
 //! differences that are looked for here, docs/TESTING.md their classes.
 
+mod environment;
+
+use environment::number;
 use hopsickle as ours;
 use hopsickle::{Form, Frame, Refusal};
 use oracle::answer::{answer, quiet_panics, ACCEPTED, PANICKED, REFUSED};
@@ -586,10 +589,6 @@ fn outcome(random: &mut Random, kind: u8, octets: &[u8]) -> Outcome {
         }
         _ => Ok("not a call of the bindings"),
     }
-}
-
-fn number(name: &str, otherwise: u64) -> u64 {
-    std::env::var(name).ok().and_then(|text| text.parse().ok()).unwrap_or(otherwise)
 }
 
 #[test]

@@ -248,6 +248,36 @@ fn strict_reading() {
 }
 
 #[test]
+fn checked_reading() {
+    let (header, pdu) = full();
+    let octets = encode_smv(&header, &pdu).unwrap();
+    let data = data_set(&[0.5]);
+    let all = read_frame(&octets, &data).unwrap();
+    let mut frame = read_checked(&octets, &data).unwrap();
+    assert_eq!((frame.no_asdu(), frame.channels()), (2, 1));
+    assert_eq!((frame.counts(), frame.values()), (all.counts(), all.values()));
+    assert_eq!((frame.header(), frame.pdu()), (all.header(), all.pdu()));
+
+    // Behind the samples of the last ASDU, of 8 octets, stand 13, smpMod and gmIdentity. A refusal
+    // leaves what was read before.
+    let last = octets.len() - 13 - 8;
+    let mut other = octets.clone();
+    other[last - 1] = 16;
+    assert_eq!(read_frame(&other, &data).unwrap().pdu(), all.pdu());
+    assert_eq!(read_checked(&other, &data).err(), Some(refusal(13, last)));
+    assert_eq!(frame.read_checked(&other, &data), Err(refusal(13, last)));
+    assert_eq!(frame.read_checked(&other[..last + 7], &data), Err(refusal(1, last)));
+    assert_eq!(frame.read_checked(&other, &data_set(&[1.0; 25])), Err(refusal(8, 0)));
+    assert_eq!((frame.pdu(), frame.values()), (all.pdu(), all.values()));
+
+    // Document 01's frame, read with no channel.
+    assert!(read_frame(&FRAME, &data_set(&[])).is_ok());
+    assert_eq!(read_checked(&FRAME, &data_set(&[])).err(), Some(refusal(13, 45)));
+    frame.read_checked(&FRAME, &data).unwrap();
+    assert_eq!((frame.no_asdu(), frame.values()), (1, &[500.0][..]));
+}
+
+#[test]
 fn granted_reading() {
     let (header, mut pdu) = full();
     for (asdu, word) in pdu.sav_asdu.iter_mut().zip([0x40, 0x80]) {
@@ -516,7 +546,7 @@ fn data_sets() {
 
 #[test]
 fn errors() {
-    for number in 1..=11 {
+    for number in (1..=11).chain([13]) {
         let refusal = refusal(number, 7);
         assert_eq!(DecodeError::from(refusal).refusal(), Some(refusal));
         assert_eq!(EncodeError::from(refusal).refusal(), Some(refusal));

@@ -123,9 +123,7 @@ fn reading() {
     let mut accepted = [0; 3];
     for (channels, frame) in frames(Random(5)).take(20_000) {
         for (strict, accepted) in [None, Some(false), Some(true)].into_iter().zip(&mut accepted) {
-            // Enough for every frame, and more.
-            let before =
-                Arrays::of(MAX_NUMBERS + 3, MAX_OCTETS + 3, MAX_SAMPLES + 3, MAX_SAMPLES + 3);
+            let before = Arrays::large();
             let mut after = before.clone();
             let number = after.read(strict, &frame, channels);
             if number != 0 {
@@ -144,7 +142,7 @@ fn reading() {
             assert!(after.qualities[..samples].iter().all(|word| *word < 1 << 13));
 
             // Exactly enough, and one element less.
-            let enough = Arrays::of(numbers, octets, samples, samples);
+            let enough = Arrays::enough(asdus, channels);
             let mut exact = enough.clone();
             assert_eq!(exact.read(strict, &frame, channels), 0);
             assert_eq!(exact.numbers, after.numbers[..numbers]);

@@ -3,28 +3,20 @@
 //! isn't given) generated from HOPSICKLE_SEED (1).
 
 mod arrays;
+mod environment;
+mod walk;
 
 use arrays::{frames, Arrays};
+use environment::number;
 use hopsickle::sys::*;
 use oracle::generate::{Random, FIRST_LENGTH_OCTETS};
 use oracle::hex::hex;
+use walk::{lent, walk};
 
 impl Arrays {
     fn read_granted(&mut self, frame: &[u8], channels: usize, mask: u32) -> usize {
         let Arrays { numbers, octets, counts, qualities, place } = self;
         read_granted(frame, channels, mask, numbers, octets, counts, qualities, place)
-    }
-
-    /// Enough for every frame, and more.
-    fn large() -> Arrays {
-        Arrays::of(MAX_NUMBERS + 3, MAX_OCTETS + 3, MAX_SAMPLES + 3, MAX_SAMPLES + 3)
-    }
-
-    /// Exactly enough for so many ASDUs, with so many samples each.
-    fn enough(asdus: usize, samples: usize) -> Arrays {
-        let numbers = HEAD_NUMBERS + asdus * ASDU_NUMBERS;
-        let octets = HEAD_OCTETS + asdus * ASDU_OCTETS;
-        Arrays::of(numbers, octets, asdus * samples, asdus * samples)
     }
 
     fn lengths(&self) -> [usize; 4] {
@@ -204,117 +196,14 @@ fn too_many_channels() {
 
 // ---- what is hidden
 
-/// A walk of a frame in the order of reading, which notes the places of hidden octets. A step answers
-/// `None` where reading is refused.
-struct Walk<'a> {
-    frame: &'a [u8],
-    at: usize,
-    hidden: Vec<usize>,
-}
-
-impl<'a> Walk<'a> {
-    /// A tag with its length octets: the length.
-    fn head(&mut self) -> Option<usize> {
-        let first = usize::from(*self.frame.get(self.at + 1)?);
-        let more = match first {
-            0x00..=0x7f => 0,
-            0x81..=0x83 => first - 0x80,
-            _ => return None,
-        };
-        let octets = self.frame.get(self.at + 2..self.at + 2 + more)?;
-        self.at += 2 + more;
-        let long = octets.iter().fold(0, |length, octet| length << 8 | usize::from(*octet));
-        Some(if more == 0 { first } else { long })
-    }
-
-    fn octets(&mut self, length: usize) -> Option<&'a [u8]> {
-        let octets = self.frame.get(self.at..)?.get(..length)?;
-        self.at += length;
-        Some(octets)
-    }
-
-    /// An element of at most so many octets.
-    fn content(&mut self, most: usize) -> Option<&'a [u8]> {
-        let length = self.head()?;
-        self.octets(length).filter(|octets| octets.len() <= most)
-    }
-
-    /// An integer of so many octets, which can have a 00 more in front.
-    fn integer(&mut self, width: usize) -> Option<u64> {
-        let length = self.head()?;
-        let first = *self.frame.get(self.at)?;
-        let octets = self.octets(length)?;
-        if width < length && !(length == width + 1 && octets[0] == 0 && 0x80 <= octets[1]) {
-            return None;
-        }
-        let sign = if first < 0x80 { 0 } else { u64::MAX };
-        let value = octets.iter().fold(sign, |value, octet| value << 8 | u64::from(*octet));
-        Some(value & ((1 << (8 * width)) - 1))
-    }
-
-    fn is_next(&self, tag: u8) -> bool {
-        self.frame.get(self.at) == Some(&tag)
-    }
-
-    fn samples(&mut self, channels: usize, mask: u32) -> Option<()> {
-        for channel in 0..channels {
-            if mask >> channel & 1 == 0 {
-                self.hidden.extend(self.at..self.frame.len().min(self.at + 8));
-            }
-            self.octets(8)?;
-        }
-        Some(())
-    }
-
-    fn asdu(&mut self, channels: usize, mask: u32) -> Option<()> {
-        self.head()?;
-        self.content(127)?;
-        if self.is_next(0x81) {
-            self.content(127)?;
-        }
-        self.integer(2)?;
-        self.integer(4)?;
-        if self.is_next(0x84) {
-            self.head()?;
-            self.octets(8)?;
-        }
-        self.integer(1)?;
-        if self.is_next(0x86) {
-            self.integer(2)?;
-        }
-        self.head()?;
-        self.samples(channels, mask)?;
-        if self.is_next(0x88) {
-            self.integer(2)?;
-        }
-        if self.is_next(0x89) {
-            self.content(8)?;
-        }
-        Some(())
-    }
-
-    fn frame(&mut self, channels: usize, mask: u32) -> Option<()> {
-        let tag = if self.frame.get(12..14) == Some(&[0x81, 0x00]) { 4 } else { 0 };
-        if 24 < channels || self.frame.len() < tag + 18 {
-            return None;
-        }
-        self.at = tag + 22;
-        self.head()?;
-        let asdus = self.integer(2).filter(|asdus| *asdus <= 8)?;
-        if self.is_next(0x81) {
-            self.content(64)?;
-        }
-        self.head()?;
-        (0..asdus).try_for_each(|_| self.asdu(channels, mask))
-    }
-}
-
 /// The places of the count and quality octets of hidden channels that reading comes to, in ascending
 /// order, and whether it is refused before its end.
 fn hidden(frame: &[u8], channels: usize, mask: u32) -> (Vec<usize>, bool) {
-    let mut walk = Walk { frame, at: 0, hidden: vec![] };
-    let refused = walk.frame(channels, mask).is_none();
-    (walk.hidden, refused)
+    let (lengths, refused) = walk(frame, channels);
+    let hidden = || (0..channels).filter(|channel| mask >> channel & 1 == 0);
+    let samples =
+        lengths.iter().flat_map(|(_, octets)| hidden().map(|channel| octets.end + 8 * channel));
+    (samples.flat_map(|sample| sample..frame.len().min(sample + 8)).collect(), refused)
 }
 
 /// Cuts a frame after its first sample's start, or replaces an octet there that is none of a sample.
@@ -351,24 +240,6 @@ fn replaced(random: &mut Random, frame: &[u8], places: &[usize]) -> Vec<u8> {
     other
 }
 
-/// Arrays enough for every frame, exactly enough, or one element short in one of them.
-fn lent(random: &mut Random, read: &(usize, Arrays), shown: usize) -> Arrays {
-    let asdus = if read.0 == 0 { read.1.numbers[NO_ASDU] as usize } else { 0 };
-    let enough = Arrays::enough(asdus, shown);
-    match random.below(6) {
-        0 => enough,
-        1 => {
-            let shorter = enough.shorter();
-            shorter[random.below(shorter.len())].clone()
-        }
-        _ => Arrays::large(),
-    }
-}
-
-fn number(name: &str, otherwise: u64) -> u64 {
-    std::env::var(name).ok().and_then(|text| text.parse().ok()).unwrap_or(otherwise)
-}
-
 #[test]
 fn hidden_octets_replaced() {
     let seed = number("HOPSICKLE_SEED", 1);
@@ -384,10 +255,11 @@ fn hidden_octets_replaced() {
         let channels = if random.percent(10) { random.among(0, 25) } else { made_for };
         damage(&mut random, channels, &mut frame);
         let read = ordinary(&frame, channels);
+        let asdus = if read.0 == 0 { read.1.numbers[NO_ASDU] as usize } else { 0 };
         let one = 1 << random.below(channels.max(1));
         for mask in [0, random.draw() as u32, one, !one, u32::MAX << channels, u32::MAX] {
             let shown: Vec<usize> = (0..channels).filter(|i| mask >> i & 1 == 1).collect();
-            let before = lent(&mut random, &read, shown.len());
+            let before = lent(&mut random, asdus, shown.len());
             let after = answer(&frame, channels, mask, &before);
             let case = || format!("{channels} channels, mask {mask:x}, {}", hex(&frame));
             assert_eq!(after, owed(&read, channels, &shown, &before), "{}", case());

@@ -76,13 +76,13 @@ fn with_arrays(
     );
 }
 
-// The frame's octets, of so many counts that differ from channel to channel; 0 where it is refused.
-fn write(frame: &mut [u8], counts: &[i32]) -> usize {
+// The octets of a frame of so many ASDUs of eight channels, with these counts; 0 where it is refused.
+pub fn write(frame: &mut [u8], no_asdu: u16, counts: &[i32]) -> usize {
     let mut qualities = [0; 16];
     crate::samples::fill_qualities(&mut qualities);
     let written = encode_smv::encode_smv(
         crate::records::header(),
-        crate::records::pdu(crate::records::asdu(), 2),
+        crate::records::pdu(crate::records::asdu(), no_asdu),
         8,
         false,
         counts,
@@ -134,7 +134,7 @@ fn whole() {
     crate::samples::fill_counts(&mut counts);
     let mut space = [0; 256];
     let frame: &mut [u8] = &mut space;
-    let n = write(frame, &counts);
+    let n = write(frame, 2, &counts);
     masks(first(frame, n));
     arrays(first(frame, n));
     cut(b"cut in a hidden sample", first(frame, n));
@@ -148,7 +148,7 @@ fn replaced() {
     counts[15] = -2147483648;
     let mut space = [0; 256];
     let frame: &mut [u8] = &mut space;
-    let n = write(frame, &counts);
+    let n = write(frame, 2, &counts);
     with_arrays(
         b"mask 1, hidden counts replaced",
         first(frame, n),
@@ -167,6 +167,6 @@ fn cut_off() {
     counts[8] = 0;
     let mut space = [0; 256];
     let frame: &mut [u8] = &mut space;
-    let n = write(frame, &counts);
+    let n = write(frame, 2, &counts);
     cut(b"cut in another hidden sample", first(frame, n));
 }

@@ -2,6 +2,7 @@
 // and octets with what reading answers. The list's format stands in its own first lines.
 mod block;
 mod calls;
+mod checks;
 mod describe;
 mod frames;
 mod grants;
@@ -25,6 +26,7 @@ fn main() {
     reads::print();
     calls::print();
     grants::print();
+    checks::print();
 }
 
 // The first lines: what blocks there are.
@@ -54,6 +56,7 @@ fn print_format() {
     say(b"#   length N           Length as it was read\n");
     say(b"#   the lines of the description that was read\n");
     print_granted();
+    print_checked();
     say(b"#\n");
 }
 
@@ -65,6 +68,15 @@ fn print_granted() {
     );
     say(b"#   granted accepted, or granted refused N P, and where it accepts\n");
     say(b"#   length N and the lines of the description, with a sample for each shown channel\n");
+}
+
+// The first lines: the block of a checked reading.
+fn print_checked() {
+    say(b"# checked NAME       what checked reading answers\n");
+    say(b"#   channels N, counts N, qualities N, octets HEX\n");
+    say(b"#   ordinary accepted, or ordinary refused N P\n");
+    say(b"#   checked accepted, or checked refused N P, and where it accepts\n");
+    say(b"#   length N and the lines of the description\n");
 }
 
 // The first lines: the words of a description.

@@ -6,10 +6,10 @@ use Prim.Native.Nat.{ℕ}
 use lib.IntN.{ℤ, pos, negsuc}
 use Rattle.definition.specs.Frame.{Description, and}
 use Rattle.definition.specs.Read.{beAt, headAt, spanAt, numberAt, uintAt, textAt, refrTmAt, gmIdentityAt, hasAt, optionalAt, signedOf, samplesAt, asduAt, asdusAt, pduAt, tagged, simulationOf, headerFrom, headerAt}
-use Rattle.definition.specs.Placed.{withSamples}
+use Rattle.definition.specs.Placed.{withSamples, noAsduAt, startAt}
 use Rattle.definition.specs.Flat.{left}
 use Rattle.definition.specs.Answers.{Answer, refusal, described, readFrame, heldBy, over, countsOf, allCounts}
-use Rattle.grant.specs.Grant.{shows, shownFrom, shownOf, granted, grantedRead, or, hiddenSample, fieldsAt, openAt, hiddenAsdu, hiddenAsdus, hidden}
+use Rattle.grant.specs.Grant.{shows, shownFrom, shownOf, granted, grantedRead, or, hiddenSample, fieldsAt, hiddenAsdu, hiddenAsdus, hidden}
 
 -- the header; 60, noASDU, A2, 30, svID, smpCnt, confRev, smpSynch; 87 and the samples: 1 with 2, then -1 with 3
 unfoldable frame : List ℕ
@@ -20,11 +20,11 @@ frame =
 
 -- the grant of channel 0 hides the octets of channel 1, which are 51 to 58, and that of channel 1 those of channel 0, from 43 on
 hides-second : map (hidden 2 1 frame) (42 ∷ 43 ∷ 50 ∷ 51 ∷ 58 ∷ 59 ∷ []) ≡ false ∷ false ∷ false ∷ true ∷ true ∷ false ∷ []
-unfolding frame hidden hiddenAsdus hiddenAsdu hiddenSample fieldsAt openAt or shows and headAt beAt spanAt numberAt uintAt textAt refrTmAt gmIdentityAt hasAt optionalAt samplesAt asduAt tagged headerFrom headerAt
+unfolding frame hidden hiddenAsdus hiddenAsdu hiddenSample fieldsAt startAt noAsduAt or shows and headAt beAt spanAt numberAt uintAt textAt refrTmAt gmIdentityAt hasAt optionalAt samplesAt asduAt tagged headerFrom headerAt
 hides-second = refl
 
 hides-first : map (hidden 2 2 frame) (42 ∷ 43 ∷ 50 ∷ 51 ∷ 58 ∷ 59 ∷ []) ≡ false ∷ true ∷ true ∷ false ∷ false ∷ false ∷ []
-unfolding frame hidden hiddenAsdus hiddenAsdu hiddenSample fieldsAt openAt or shows and headAt beAt spanAt numberAt uintAt textAt refrTmAt gmIdentityAt hasAt optionalAt samplesAt asduAt tagged headerFrom headerAt
+unfolding frame hidden hiddenAsdus hiddenAsdu hiddenSample fieldsAt startAt noAsduAt or shows and headAt beAt spanAt numberAt uintAt textAt refrTmAt gmIdentityAt hasAt optionalAt samplesAt asduAt tagged headerFrom headerAt
 hides-first = refl
 
 -- the counts that an answer leaves in an array

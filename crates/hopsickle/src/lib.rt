@@ -12,6 +12,7 @@ ghost use Rattle.definition.specs.Answers.{over};
 ghost use Rattle.definition.specs.Scaling.{valuesAnswer, valuesOf};
 ghost use Rattle.definition.specs.Flat.{headerNumbers, headerOctets, numbersOfHeader, octetsOfHeader, flatDescription, flatHeader, flatRead, flatDecode, flatStrict, flatEncode, flatEncodeValues, flatSize, numberOf, besideIt};
 ghost use Rattle.grant.specs.Grant.{flatGranted};
+ghost use Rattle.fit.specs.Fit.{flatChecked};
 ghost use Rattle.rt_services.specs.Describe.{headerOf};
 ghost use Rattle.ber_encode.specs.Told.{told};
 ghost use Rattle.flat_encode.specs.Values.{countsFor, countsIn, describedBy};
@@ -127,6 +128,25 @@ pub extern "C" fn hopsickle_read(
         (now (numbers .entry)) (now (numbers .exit)) (now (octets .entry)) (now (octets .exit)) (now (counts .entry)) (now (counts .exit)) (now (qualities .entry)) (now (qualities .exit)) r (now (place .exit)) ⌝ }
 {
     let read = flat_decode::read_frame(frame, channels, numbers, octets, counts, qualities);
+    answer(read, place)
+}
+
+// A frame, the ordinary way, if the data set fits it: in every ASDU the length after 87 is 8 times the
+// channels.
+#[no_mangle]
+pub extern "C" fn hopsickle_read_checked(
+    frame: &[u8],
+    channels: usize,
+    numbers: &mut [u32],
+    octets: &mut [u8],
+    counts: &mut [i32],
+    qualities: &mut [u32],
+    place: &mut usize,
+) -> usize
+    ensures { λ r. ⌜ Reads (flatChecked channels (length (now (numbers .entry))) (length (now (octets .entry))) (length (now (counts .entry))) (length (now (qualities .entry))) (now (frame .entry)))
+        (now (numbers .entry)) (now (numbers .exit)) (now (octets .entry)) (now (octets .exit)) (now (counts .entry)) (now (counts .exit)) (now (qualities .entry)) (now (qualities .exit)) r (now (place .exit)) ⌝ }
+{
+    let read = flat_checked::read_checked(frame, channels, numbers, octets, counts, qualities);
     answer(read, place)
 }
 

@@ -1,6 +1,6 @@
 //! The arrays of a reading, and generated frames to read into them.
 
-use hopsickle::sys::read;
+use hopsickle::sys::*;
 use oracle::generate::{request, Random};
 use oracle::layout::Cursor;
 
@@ -23,6 +23,18 @@ impl Arrays {
             qualities: vec![0xdead_beef; qualities],
             place: 77,
         }
+    }
+
+    /// Enough for every frame, and more.
+    pub fn large() -> Arrays {
+        Arrays::of(MAX_NUMBERS + 3, MAX_OCTETS + 3, MAX_SAMPLES + 3, MAX_SAMPLES + 3)
+    }
+
+    /// Exactly enough for so many ASDUs, with so many samples each.
+    pub fn enough(asdus: usize, samples: usize) -> Arrays {
+        let numbers = HEAD_NUMBERS + asdus * ASDU_NUMBERS;
+        let octets = HEAD_OCTETS + asdus * ASDU_OCTETS;
+        Arrays::of(numbers, octets, asdus * samples, asdus * samples)
     }
 
     /// Reads a frame: the ordinary way, or strictly, shortest or fixed.

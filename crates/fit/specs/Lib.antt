@@ -1,0 +1,4 @@
+pub mod Fit
+pub mod Theorems
+pub mod Example
+pub mod Calls
