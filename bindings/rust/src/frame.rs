@@ -99,18 +99,7 @@ impl Frame {
         config: &SavDataSetConfig,
         mask: u32,
     ) -> Result<(), Refusal> {
-        let mut place = 0;
-        let number = read_granted(
-            frame,
-            config.config.len(),
-            mask,
-            &mut self.numbers,
-            &mut self.octets,
-            &mut self.counts,
-            &mut self.qualities,
-            &mut place,
-        );
-        Refusal::check(number, place)?;
+        self.fill(Reading::Granted { mask }, frame, config.config.len())?;
         let shown = config.config.iter().enumerate().filter(|(i, _)| mask >> i & 1 == 1);
         self.scale(shown.map(|(_, channel)| channel))
     }
@@ -121,19 +110,24 @@ impl Frame {
         frame: &[u8],
         data: &SavDataSetConfig,
     ) -> Result<(), Refusal> {
+        self.fill(reading, frame, data.config.len())?;
+        self.scale(data.config.iter())
+    }
+
+    /// Reads a frame of so many channels into the arrays.
+    fn fill(&mut self, reading: Reading, frame: &[u8], channels: usize) -> Result<(), Refusal> {
         let mut place = 0;
         let number = read_as(
             reading,
             frame,
-            data.config.len(),
+            channels,
             &mut self.numbers,
             &mut self.octets,
             &mut self.counts,
             &mut self.qualities,
             &mut place,
         );
-        Refusal::check(number, place)?;
-        self.scale(data.config.iter())
+        Refusal::check(number, place)
     }
 
     /// Reads a PDU from a place on.

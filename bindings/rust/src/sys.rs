@@ -147,14 +147,16 @@ extern "C" {
     ) -> usize;
 }
 
-/// How a frame is read with all its channels.
+/// How a frame is read.
 pub(crate) enum Reading {
     Ordinary,
     Checked,
     Strict { fixed: bool },
+    Granted { mask: u32 },
 }
 
-/// `hopsickle_read`, `hopsickle_read_checked` or `hopsickle_read_strict`, over slices.
+/// `hopsickle_read`, `hopsickle_read_checked`, `hopsickle_read_strict` or `hopsickle_read_granted`, over
+/// slices.
 #[inline]
 #[allow(clippy::too_many_arguments)]
 pub(crate) fn read_as(
@@ -184,6 +186,9 @@ pub(crate) fn read_as(
             ),
             Reading::Strict { fixed } => hopsickle_read_strict(
                 s, s_len, channels, fixed, n, n_len, o, o_len, c, c_len, q, q_len, place,
+            ),
+            Reading::Granted { mask } => hopsickle_read_granted(
+                s, s_len, channels, mask, n, n_len, o, o_len, c, c_len, q, q_len, place,
             ),
         }
     }
@@ -234,24 +239,7 @@ pub fn read_granted(
     qualities: &mut [u32],
     place: &mut usize,
 ) -> usize {
-    // SAFETY: as in `read_as`.
-    unsafe {
-        hopsickle_read_granted(
-            frame.as_ptr(),
-            frame.len(),
-            channels,
-            mask,
-            numbers.as_mut_ptr(),
-            numbers.len(),
-            octets.as_mut_ptr(),
-            octets.len(),
-            counts.as_mut_ptr(),
-            counts.len(),
-            qualities.as_mut_ptr(),
-            qualities.len(),
-            place,
-        )
-    }
+    read_as(Reading::Granted { mask }, frame, channels, numbers, octets, counts, qualities, place)
 }
 
 pub const MAX_ASDUS: usize = 8;

@@ -9,7 +9,6 @@ use crate::print::hex16;
 use crate::print::say;
 use ber_encode::Written;
 use rt_services::SavDataSetConfig;
-use rt_services::SavPdu;
 
 fn high(mask: u32) -> u16 {
     (mask >> 16) as u16

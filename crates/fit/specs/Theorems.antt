@@ -42,15 +42,10 @@ pub record Checks (n : ℕ) (s : List ℕ) (read check : Answer (Description × 
   pub fits-only : {x : Description × ℕ} → check ≡ accepted x → misfitIn n s ≡ none
 
 module _ (n : ℕ) (s : List ℕ) where
-  accepts-of : (o : Option ℕ) (r : Answer (Description × ℕ)) {x : Description × ℕ} → checked o r ≡ accepted x → r ≡ accepted x
-  accepts-of o (refusal k p) e = no-way e
-  accepts-of none (accepted y) e = e
-  accepts-of (some p) (accepted y) e = no-way e
-
-  fits-only-of : (o : Option ℕ) (r : Answer (Description × ℕ)) {x : Description × ℕ} → checked o r ≡ accepted x → o ≡ none
-  fits-only-of o (refusal k p) e = no-way e
-  fits-only-of none (accepted y) e = refl
-  fits-only-of (some p) (accepted y) e = no-way e
+  accepted-of : (o : Option ℕ) (r : Answer (Description × ℕ)) {x : Description × ℕ} → checked o r ≡ accepted x → (r ≡ accepted x) × (o ≡ none)
+  accepted-of o (refusal k p) e = no-way e
+  accepted-of none (accepted y) e = (e, refl)
+  accepted-of (some p) (accepted y) e = no-way e
 
   else-of : (o : Option ℕ) (r : Answer (Description × ℕ)) {k p : ℕ} → checked o r ≡ refusal k p → (k ≡ lengthsDiffer → ⊥) → r ≡ refusal k p
   else-of o (refusal j q) e f = e
@@ -64,13 +59,13 @@ module _ (n : ℕ) (s : List ℕ) where
 
   checks-of : (r : Answer (Description × ℕ)) → Answered 8 r → Checks n s r (checked (misfitIn n s) r)
   checks-of r h = record {
-    accepts = λ e. accepts-of (misfitIn n s) r e;
+    accepts = λ e. accepted-of (misfitIn n s) r e .0;
     refuses = λ e. rw e;
     else = λ e f. else-of (misfitIn n s) r e f;
     differs = λ e f. rw (e, f);
     only = λ e. only-of (misfitIn n s) r h e;
     fits = λ e f. rw (e, f);
-    fits-only = λ e. fits-only-of (misfitIn n s) r e;
+    fits-only = λ e. accepted-of (misfitIn n s) r e .1;
   }
 
 -- (1) Checked reading of a frame, and ordinary reading.

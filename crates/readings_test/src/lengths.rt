@@ -147,88 +147,101 @@ fn same(
     same_words(words, other_words)
 }
 
-// How both readings answer, with arrays that are long enough.
-fn compare(s: &[u8], channels: usize) -> Outcome {
-    let mut numbers = [77; layout::MAX_NUMBERS];
-    let mut octets = [77; layout::MAX_OCTETS];
-    let mut counts = [77; SavDataSetConfig::MAX_SAMPLES];
-    let mut words = [77; SavDataSetConfig::MAX_SAMPLES];
-    let ordinary = flat_decode::read_frame(
-        s,
-        channels,
-        &mut numbers[..],
-        &mut octets[..],
-        &mut counts[..],
-        &mut words[..],
-    );
-    let mut own_numbers = [77; layout::MAX_NUMBERS];
-    let mut own_octets = [77; layout::MAX_OCTETS];
-    let mut own_counts = [77; SavDataSetConfig::MAX_SAMPLES];
-    let mut own_words = [77; SavDataSetConfig::MAX_SAMPLES];
+// How both readings answer, each into four of these arrays.
+fn compare(
+    s: &[u8],
+    channels: usize,
+    numbers: &mut [u32],
+    octets: &mut [u8],
+    counts: &mut [i32],
+    words: &mut [u32],
+    own_numbers: &mut [u32],
+    own_octets: &mut [u8],
+    own_counts: &mut [i32],
+    own_words: &mut [u32],
+) -> Outcome {
+    let ordinary = flat_decode::read_frame(s, channels, numbers, octets, counts, words);
     let checked = flat_checked::read_checked(
         s,
         channels,
-        &mut own_numbers[..],
-        &mut own_octets[..],
-        &mut own_counts[..],
-        &mut own_words[..],
+        own_numbers,
+        own_octets,
+        own_counts,
+        own_words,
     );
     if left(
         checked,
-        &own_numbers,
-        &own_octets,
-        &own_counts,
-        &own_words,
-        &numbers,
-        &octets,
-        &counts,
-        &words,
+        own_numbers,
+        own_octets,
+        own_counts,
+        own_words,
+        numbers,
+        octets,
+        counts,
+        words,
     ) {
         return class(s, channels, ordinary, checked);
     }
     Outcome::Wrong
 }
 
-// The same with arrays for the samples of two ASDUs of eight channels.
+// With arrays that are long enough for any frame.
+fn compare_long(s: &[u8], channels: usize) -> Outcome {
+    let mut counts = [77; SavDataSetConfig::MAX_SAMPLES];
+    let mut words = [77; SavDataSetConfig::MAX_SAMPLES];
+    let mut own_counts = [77; SavDataSetConfig::MAX_SAMPLES];
+    let mut own_words = [77; SavDataSetConfig::MAX_SAMPLES];
+    with_samples(
+        s,
+        channels,
+        &mut counts,
+        &mut words,
+        &mut own_counts,
+        &mut own_words,
+    )
+}
+
+// With arrays for the samples of two ASDUs of eight channels.
 fn compare_short(s: &[u8], channels: usize) -> Outcome {
-    let mut numbers = [77; layout::MAX_NUMBERS];
-    let mut octets = [77; layout::MAX_OCTETS];
     let mut counts = [77; 16];
     let mut words = [77; 16];
-    let ordinary = flat_decode::read_frame(
-        s,
-        channels,
-        &mut numbers[..],
-        &mut octets[..],
-        &mut counts[..],
-        &mut words[..],
-    );
-    let mut own_numbers = [77; layout::MAX_NUMBERS];
-    let mut own_octets = [77; layout::MAX_OCTETS];
     let mut own_counts = [77; 16];
     let mut own_words = [77; 16];
-    let checked = flat_checked::read_checked(
+    with_samples(
         s,
         channels,
-        &mut own_numbers[..],
-        &mut own_octets[..],
-        &mut own_counts[..],
-        &mut own_words[..],
-    );
-    if left(
-        checked,
-        &own_numbers,
-        &own_octets,
-        &own_counts,
-        &own_words,
-        &numbers,
-        &octets,
-        &counts,
-        &words,
-    ) {
-        return class(s, channels, ordinary, checked);
-    }
-    Outcome::Wrong
+        &mut counts,
+        &mut words,
+        &mut own_counts,
+        &mut own_words,
+    )
+}
+
+// With these arrays for the samples.
+fn with_samples(
+    s: &[u8],
+    channels: usize,
+    counts: &mut [i32],
+    words: &mut [u32],
+    own_counts: &mut [i32],
+    own_words: &mut [u32],
+) -> Outcome {
+    let mut numbers = [77; layout::MAX_NUMBERS];
+    let mut octets = [77; layout::MAX_OCTETS];
+    let mut own_numbers = [77; layout::MAX_NUMBERS];
+    let mut own_octets = [77; layout::MAX_OCTETS];
+    compare(
+        s,
+        channels,
+        &mut numbers,
+        &mut octets,
+        counts,
+        words,
+        &mut own_numbers,
+        &mut own_octets,
+        own_counts,
+        own_words,
+    )
 }
 
 fn put(frame: &mut [u8], at: usize, octet: u8) {
@@ -297,5 +310,5 @@ pub fn answer(k: u32) -> Outcome {
     if below(k, 46, 8) == 0 {
         return compare_short(s, asked(k, channels));
     }
-    compare(s, asked(k, channels))
+    compare_long(s, asked(k, channels))
 }
