@@ -9,15 +9,20 @@
  * fixed is the form of the counters of every ASDU. true: smpCnt has two octets, confRev four and
  * smpSynch one, always, highest octet first. false: the fewest octets whose first is below 80
  * (hexadecimal), as every other integer of the frame. hopsickle_read, hopsickle_read_checked,
- * hopsickle_read_granted and hopsickle_decode take both.
+ * hopsickle_read_granted, hopsickle_read_by_sets and hopsickle_decode take both.
  *
  * Every function answers 0 where it accepts, else the number of a refusal, and then the only thing
- * it has written is the place or the size. hopsickle_is_smv alone answers a bool.
+ * it has written is the place, or the size, written or held. hopsickle_is_smv alone answers a bool.
  *
- * An array is lent as a pointer and the number of its elements. The caller sees to it that
- * - each pointer points to as many elements as it says, also where that is 0, and is never null;
- * - what a function writes (arrays, place, size, written) overlaps nothing else that is lent to it.
- * Nothing is kept after a call, so calls from several threads don't disturb each other.
+ * An array is lent as a pointer and the number of its elements. The two arrays of a store of data sets
+ * (65 and 768 elements) and the 24 scale factors that hopsickle_read_by_sets hands back have fixed
+ * lengths, and are lent as a pointer alone. The caller sees to it that
+ * - each pointer points to as many elements as it says or as are fixed, also where that is 0, and is
+ *   never null;
+ * - what a function writes (arrays, place, size, written, held, channels) overlaps nothing else that is
+ *   lent to it.
+ * Nothing is kept after a call, so calls from several threads don't disturb each other, provided that
+ * nothing lent to one of them is written by another.
  */
 #ifndef HOPSICKLE_H
 #define HOPSICKLE_H
@@ -40,6 +45,9 @@ extern "C" {
 #define HOPSICKLE_MAX_PDU 1492    /* octets of a written PDU, from its tag to its end */
 #define HOPSICKLE_MAX_FRAME 1518  /* octets of a written frame */
 #define HOPSICKLE_QUALITY_LIMIT 8192 /* a quality word is below this */
+#define HOPSICKLE_MAX_SETS 32     /* data sets of a store */
+#define HOPSICKLE_SET_NUMBERS 65  /* elements of a store's numbers */
+#define HOPSICKLE_SET_SCALES 768  /* elements of a store's scale factors */
 
 /* ---- refusals */
 
@@ -72,6 +80,13 @@ extern "C" {
 #define HOPSICKLE_LENGTHS_DIFFER 13 /* checked reading only: in an ASDU the length after 87 (hexadecimal) is
                                        not 8 times the channels; the octet after that length in the
                                        earliest such ASDU */
+
+/* By whoever adds data sets to a store, place 0. */
+#define HOPSICKLE_SET_NOT_ADDED 14 /* a confRev that isn't higher than all held, or a thirty-third set */
+
+/* By a frame and data sets that don't match, place 0. */
+#define HOPSICKLE_NO_SET 15         /* reading by sets only: no set for the first ASDU's confRev, or no ASDU */
+#define HOPSICKLE_OTHER_CONF_REV 16 /* reading by sets only: a later ASDU has another confRev than the first */
 
 /* ---- places in the numbers. A mark is 1 where the field is there, else 0; reading puts 0 behind a
  * mark of 0, and writing doesn't look there. */
@@ -128,6 +143,16 @@ extern "C" {
  * words are enough with HOPSICKLE_MAX_SAMPLES. */
 #define HOPSICKLE_MAX_NUMBERS 106
 #define HOPSICKLE_MAX_OCTETS 2236
+
+/* ---- places in a store of data sets: how many it holds, then confRev and channels of each, the
+ * earliest addition first, in the numbers; 24 scale factors of each, zero past its channels, in the
+ * scale factors. A store whose first number is 0 is empty, whatever else is in the arrays. */
+
+#define HOPSICKLE_SETS_HELD 0
+/* Of set i (from 0): confRev and channels, and the scale factor of channel j. */
+#define HOPSICKLE_SET_CONF_REV(i) (1 + 2 * (size_t)(i))
+#define HOPSICKLE_SET_CHANNELS(i) (2 + 2 * (size_t)(i))
+#define HOPSICKLE_SET_SCALE(i, j) ((size_t)(i) * HOPSICKLE_MAX_CHANNELS + (j))
 
 /* ---- reading */
 
@@ -229,6 +254,40 @@ size_t hopsickle_values(const float *scales, size_t channels, uint16_t no_asdu,
                         const int32_t *counts, size_t counts_len,
                         float *values, size_t values_len,
                         size_t *written);
+
+/* ---- data sets by confRev. A store is two arrays that the caller keeps: numbers and scale factors. */
+
+/*
+ * Adds a data set to a store under a confRev that is higher than all held. scales has one scale factor
+ * for each channel. Writes how many sets are held, and the confRev, the channels and the 24 scale
+ * factors of the added one; nothing else of the store. *held is how many sets are then held, 0 where
+ * refused. The confRevs of a store that additions made from an empty one increase strictly.
+ * Refused: 8; then 14.
+ */
+size_t hopsickle_sets_add(uint32_t *sets /* 65 */, float *set_scales /* 768 */, uint32_t conf_rev,
+                          const float *scales, size_t channels,
+                          size_t *held);
+
+/*
+ * Reads a frame as hopsickle_read does, with the channels of the set that is held under the first ASDU's
+ * confRev. That set is handed back: *channels, and its 24 scale factors in scales. Every ASDU that is
+ * read has its confRev.
+ * Refused: 1 to 4 as hopsickle_read up to the first ASDU's confRev; then 15, and without ASDUs after the
+ * length that follows A2 (hexadecimal); then the rest of what hopsickle_read refuses with the channels
+ * of the set, 7 as its last; then 16.
+ * An addition to the store, taken or refused, changes no answer but 15: a frame that was read is read the
+ * same, into arrays of the same lengths, after any later additions.
+ * A store that additions didn't make is read too: it holds at most 32 sets, whatever its first number
+ * is; of sets with the same confRev the first counts; and one with more than 24 channels is refused 8.
+ */
+size_t hopsickle_read_by_sets(const uint8_t *frame, size_t frame_len,
+                              const uint32_t *sets /* 65 */, const float *set_scales /* 768 */,
+                              size_t *channels, float *scales /* 24 */,
+                              uint32_t *numbers, size_t numbers_len,
+                              uint8_t *octets, size_t octets_len,
+                              int32_t *counts, size_t counts_len,
+                              uint32_t *qualities, size_t qualities_len,
+                              size_t *place);
 
 /* ---- writing */
 

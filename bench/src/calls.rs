@@ -1,6 +1,6 @@
 //! The calls that are measured, each over the frames of a case again and again.
 
-use crate::case::{Case, Flat, FRAMES};
+use crate::case::{Case, Flat, CONF_REV, FRAMES};
 use hopsickle::{sys, Form};
 use oracle::original::{decode_smv, encode_smv, ethernet_header};
 use oracle::types as theirs;
@@ -47,13 +47,12 @@ pub fn original_writing(case: &Case) -> Call<'_> {
 /// Reads a frame by a function of `sys`.
 fn read_by(
     frame: &[u8],
-    channels: usize,
     to: &mut Flat,
-    call: impl Fn(&[u8], usize, &mut [u32], &mut [u8], &mut [i32], &mut [u32], &mut usize) -> usize,
+    call: impl FnOnce(&[u8], &mut [u32], &mut [u8], &mut [i32], &mut [u32], &mut usize) -> usize,
 ) {
     let mut place = 0;
     let Flat { numbers, octets, counts, qualities, .. } = &mut *to;
-    let number = call(black_box(frame), channels, numbers, octets, counts, qualities, &mut place);
+    let number = call(black_box(frame), numbers, octets, counts, qualities, &mut place);
     assert_eq!(number, 0);
     black_box(to);
 }
@@ -62,8 +61,8 @@ fn read_by(
 fn read(strict: Option<bool>, case: &Case, i: usize, to: &mut Flat) {
     let one = &case.frames[i % FRAMES];
     let frame = if strict == Some(true) { &one.fixed[..] } else { &one.frame[..] };
-    read_by(frame, case.shape.channels, to, |s, channels, n, o, c, q, place| {
-        sys::read(strict, s, channels, n, o, c, q, place)
+    read_by(frame, to, |s, n, o, c, q, place| {
+        sys::read(strict, s, case.shape.channels, n, o, c, q, place)
     });
 }
 
@@ -77,7 +76,9 @@ pub fn flat_checked(case: &Case) -> Call<'_> {
     Box::new(move |n| {
         for i in 0..n {
             let frame = &case.frames[i % FRAMES].frame;
-            read_by(frame, case.shape.channels, &mut to, sys::read_checked);
+            read_by(frame, &mut to, |s, n, o, c, q, place| {
+                sys::read_checked(s, case.shape.channels, n, o, c, q, place)
+            });
         }
     })
 }
@@ -95,8 +96,8 @@ pub fn flat_strict_fixed(case: &Case) -> Call<'_> {
 /// Reads a frame with the channels of a mask.
 fn read_granted(mask: u32, case: &Case, i: usize, to: &mut Flat) {
     let frame = &case.frames[i % FRAMES].frame;
-    read_by(frame, case.shape.channels, to, |s, channels, n, o, c, q, place| {
-        sys::read_granted(s, channels, black_box(mask), n, o, c, q, place)
+    read_by(frame, to, |s, n, o, c, q, place| {
+        sys::read_granted(s, case.shape.channels, black_box(mask), n, o, c, q, place)
     });
 }
 
@@ -110,6 +111,44 @@ pub fn flat_granted_one(case: &Case) -> Call<'_> {
     let mut to = Flat::new();
     let mask = 1 << (case.shape.channels - 1);
     Box::new(move |n| (0..n).for_each(|i| read_granted(mask, case, i, &mut to)))
+}
+
+/// A store of a set for each confRev up to that of the frames.
+fn store(case: &Case) -> ([u32; sys::SET_NUMBERS], [f32; sys::SET_SCALES]) {
+    let (mut sets, mut set_scales) = ([0; sys::SET_NUMBERS], [0.0; sys::SET_SCALES]);
+    for conf_rev in 1..=CONF_REV {
+        let mut held = 0;
+        let number = sys::sets_add(&mut sets, &mut set_scales, conf_rev, &case.scales, &mut held);
+        assert_eq!(number, 0);
+    }
+    (sets, set_scales)
+}
+
+pub fn flat_by_sets(case: &Case) -> Call<'_> {
+    let mut to = Flat::new();
+    let (sets, set_scales) = store(case);
+    Box::new(move |n| {
+        for i in 0..n {
+            let (mut channels, mut scales) = (0, [0.0; sys::MAX_CHANNELS]);
+            let (sets, set_scales) = black_box((&sets, &set_scales));
+            let frame = &case.frames[i % FRAMES].frame;
+            read_by(frame, &mut to, |s, n, o, c, q, place| {
+                sys::read_by_sets(
+                    s,
+                    sets,
+                    set_scales,
+                    &mut channels,
+                    &mut scales,
+                    n,
+                    o,
+                    c,
+                    q,
+                    place,
+                )
+            });
+            black_box((channels, scales));
+        }
+    })
 }
 
 pub fn flat_reading_values(case: &Case) -> Call<'_> {

@@ -10,6 +10,9 @@ use oracle::{original, types as theirs};
 /// Frames of a case, which differ in smpCnt, counts and quality words.
 pub const FRAMES: usize = 16;
 
+/// Their confRev: reading by confRev has a store of a set for each one from 1 to it.
+pub const CONF_REV: u32 = 8;
+
 pub struct Shape {
     pub asdus: usize,
     pub channels: usize,
@@ -93,7 +96,7 @@ fn one(
     let asdu = SavAsdu {
         msv_id: "Feeder3_MU".to_string(),
         dat_set: shape.full.then(|| "MU1/LLN0$1".to_string()),
-        conf_rev: 1,
+        conf_rev: CONF_REV,
         refr_tm: shape.full.then_some([0x5f, 1, 2, 3, 4, 5, 6, 0x0a]),
         smp_synch: 2,
         smp_rate: shape.full.then_some(4000),

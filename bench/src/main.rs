@@ -19,7 +19,7 @@ struct Comparison {
     project: Make,
 }
 
-const COMPARISONS: [Comparison; 14] = [
+const COMPARISONS: [Comparison; 15] = [
     Comparison {
         name: "Reading: the original's records with values; hopsickle_read, all arrays",
         original: calls::original_reading,
@@ -39,6 +39,11 @@ const COMPARISONS: [Comparison; 14] = [
         name: "Granted reading, one channel: the same, which reads all; hopsickle_read_granted",
         original: calls::original_reading,
         project: calls::flat_granted_one,
+    },
+    Comparison {
+        name: "Reading by confRev, the last of 8 sets: the same; hopsickle_read_by_sets",
+        original: calls::original_reading,
+        project: calls::flat_by_sets,
     },
     Comparison {
         name: "Reading with values: the same; hopsickle_read, then hopsickle_values",

@@ -1,6 +1,6 @@
 /* Writes a 9-2LE frame of one ASDU in both forms, reads the fixed one strictly, and prints its readings;
- * then checks numbers of channels against it, and reads it for a customer to whom two of its channels
- * are granted. */
+ * then checks numbers of channels against it, reads it for a customer to whom two of its channels are
+ * granted, and reads it by its confRev with a store of data sets. */
 #include <stdio.h>
 #include <string.h>
 
@@ -66,6 +66,67 @@ static void print_checked(const uint8_t *frame, size_t size, size_t channels)
                (unsigned long)number, (unsigned long)place);
 }
 
+/* Adds a data set of so many channels to a store and prints the answer. */
+static void print_addition(uint32_t *sets, float *set_scales, uint32_t conf_rev, size_t channels)
+{
+    size_t number, held;
+
+    number = hopsickle_sets_add(sets, set_scales, conf_rev, scales, channels, &held);
+    if (number == HOPSICKLE_ACCEPTED)
+        printf("confRev %lu, %lu channels: added, %lu held\n", (unsigned long)conf_rev,
+               (unsigned long)channels, (unsigned long)held);
+    else
+        printf("confRev %lu, %lu channels: refused %lu\n", (unsigned long)conf_rev,
+               (unsigned long)channels, (unsigned long)number);
+}
+
+/* Reads a frame with the set of its confRev, and prints the set and the values, or the refusal. */
+static void print_by_sets(const uint8_t *frame, size_t size, const uint32_t *sets, const float *set_scales)
+{
+    uint32_t numbers[HOPSICKLE_MAX_NUMBERS];
+    uint8_t octets[HOPSICKLE_MAX_OCTETS];
+    int32_t counts[HOPSICKLE_MAX_SAMPLES];
+    uint32_t qualities[HOPSICKLE_MAX_SAMPLES];
+    float its_scales[HOPSICKLE_MAX_CHANNELS], values[HOPSICKLE_MAX_SAMPLES];
+    size_t number, place, channels, written, k;
+
+    number = hopsickle_read_by_sets(frame, size, sets, set_scales, &channels, its_scales,
+                                    numbers, HOPSICKLE_MAX_NUMBERS, octets, HOPSICKLE_MAX_OCTETS,
+                                    counts, HOPSICKLE_MAX_SAMPLES, qualities, HOPSICKLE_MAX_SAMPLES,
+                                    &place);
+    if (number == HOPSICKLE_ACCEPTED)
+        number = hopsickle_values(its_scales, channels, (uint16_t)numbers[HOPSICKLE_NO_ASDU],
+                                  counts, HOPSICKLE_MAX_SAMPLES, values, HOPSICKLE_MAX_SAMPLES, &written);
+    if (number != HOPSICKLE_ACCEPTED) {
+        printf("by sets: refused %lu at %lu\n", (unsigned long)number, (unsigned long)place);
+        return;
+    }
+    printf("by sets: confRev %lu, %lu channels:",
+           (unsigned long)numbers[HOPSICKLE_NUMBER(0, HOPSICKLE_CONF_REV)], (unsigned long)channels);
+    for (k = 0; k < written; k++)
+        printf(" %.4f", (double)values[k]);
+    printf("\n");
+}
+
+/* Keeps the data sets of two confRevs, and reads the frame before and after they are added. */
+static void print_store(const uint8_t *frame, size_t size)
+{
+    uint32_t sets[HOPSICKLE_SET_NUMBERS] = {0}; /* an empty store */
+    float set_scales[HOPSICKLE_SET_SCALES] = {0};
+    size_t i;
+
+    print_by_sets(frame, size, sets, set_scales);
+    print_addition(sets, set_scales, 1, CHANNELS);
+    print_addition(sets, set_scales, 4, CHANNELS - 2);
+    print_addition(sets, set_scales, 3, CHANNELS);
+    for (i = 0; i < sets[HOPSICKLE_SETS_HELD]; i++)
+        printf("set %lu: confRev %lu, %lu channels, the last by %.4f\n", (unsigned long)i,
+               (unsigned long)sets[HOPSICKLE_SET_CONF_REV(i)],
+               (unsigned long)sets[HOPSICKLE_SET_CHANNELS(i)],
+               (double)set_scales[HOPSICKLE_SET_SCALE(i, sets[HOPSICKLE_SET_CHANNELS(i)] - 1)]);
+    print_by_sets(frame, size, sets, set_scales);
+}
+
 int main(void)
 {
     uint8_t frame[HOPSICKLE_MAX_FRAME];
@@ -124,5 +185,7 @@ int main(void)
             printf("%s %10ld %04lx\n", names[j], (long)shown_counts[k], (unsigned long)shown_qualities[k]);
             k++;
         }
+
+    print_store(frame, size);
     return 0;
 }

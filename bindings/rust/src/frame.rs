@@ -1,10 +1,11 @@
 //! A frame in the arrays that cross to the library, between the octets and the records.
 
+use crate::data_sets::data_set;
 use crate::sys::*;
 use crate::types::{
     EthernetHeader, Quality, Sample, SavAsdu, SavDataSetConfig, SavPdu, SavValueConfig,
 };
-use crate::{Form, Refusal};
+use crate::{DataSets, Form, Refusal};
 use std::cell::RefCell;
 use std::ops::Range;
 
@@ -102,6 +103,32 @@ impl Frame {
         self.fill(Reading::Granted { mask }, frame, config.config.len())?;
         let shown = config.config.iter().enumerate().filter(|(i, _)| mask >> i & 1 == 1);
         self.scale(shown.map(|(_, channel)| channel))
+    }
+
+    /// Reads a frame the ordinary way with the data set that is held under its first ASDU's confRev,
+    /// which is answered. See [`crate::read_by_sets`].
+    pub fn read_by_sets(
+        &mut self,
+        frame: &[u8],
+        sets: &DataSets,
+    ) -> Result<SavDataSetConfig, Refusal> {
+        let (mut channels, mut scales, mut place) = (0, [0.0; MAX_CHANNELS], 0);
+        let number = read_by_sets(
+            frame,
+            &sets.numbers,
+            &sets.scales,
+            &mut channels,
+            &mut scales,
+            &mut self.numbers,
+            &mut self.octets,
+            &mut self.counts,
+            &mut self.qualities,
+            &mut place,
+        );
+        Refusal::check(number, place)?;
+        let set = data_set(&scales[..channels]);
+        self.scale(set.config.iter())?;
+        Ok(set)
     }
 
     fn read_as(

@@ -15,6 +15,7 @@
 //! # }
 //! ```
 
+mod data_sets;
 mod form;
 mod frame;
 mod refusal;
@@ -22,6 +23,7 @@ pub mod rt_services;
 pub mod sys;
 pub mod types;
 
+pub use data_sets::DataSets;
 pub use form::Form;
 pub use frame::Frame;
 pub use refusal::Refusal;

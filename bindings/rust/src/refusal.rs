@@ -3,7 +3,7 @@
 use std::fmt;
 
 /// A refusal: its number, and the place, an octet's index from the buffer's start. The place is 0
-/// from 7 to 11. The numbers are the associated constants.
+/// from 7 to 11 and from 14 to 16. The numbers are the associated constants.
 #[derive(Debug, Clone, Copy, PartialEq, Eq)]
 pub struct Refusal {
     pub number: usize,
@@ -11,7 +11,7 @@ pub struct Refusal {
 }
 
 /// The numbers with their sentences.
-const SENTENCES: [(usize, &str); 12] = [
+const SENTENCES: [(usize, &str); 15] = [
     (Refusal::ENDS_TOO_SOON, "The octets end too soon."),
     (Refusal::BAD_LENGTH, "A length octet is 80, or 84 to FF."),
     (Refusal::INTEGER_TOO_LONG, "An integer is too long for its field."),
@@ -27,6 +27,12 @@ const SENTENCES: [(usize, &str); 12] = [
     (Refusal::TOO_LONG_TO_WRITE, "The PDU is above 1,492 octets."),
     (Refusal::VALUE_OUT_OF_RANGE, "A scaled value is below -2^31 or above 2^31."),
     (Refusal::LENGTHS_DIFFER, "In an ASDU the length after 87 is not 8 times the channels."),
+    (Refusal::SET_NOT_ADDED, "The confRev is not higher than all held, or 32 data sets are held."),
+    (
+        Refusal::NO_SET,
+        "No data set is held for the confRev of the first ASDU, or there is no ASDU.",
+    ),
+    (Refusal::OTHER_CONF_REV, "A later ASDU has another confRev than the first."),
 ];
 
 impl Refusal {
@@ -42,6 +48,9 @@ impl Refusal {
     pub const TOO_LONG_TO_WRITE: usize = 10;
     pub const VALUE_OUT_OF_RANGE: usize = 11;
     pub const LENGTHS_DIFFER: usize = 13;
+    pub const SET_NOT_ADDED: usize = 14;
+    pub const NO_SET: usize = 15;
+    pub const OTHER_CONF_REV: usize = 16;
 
     /// What the number says.
     pub fn sentence(&self) -> &'static str {

@@ -5,7 +5,7 @@ use crate::sys;
 use crate::types::{
     DecodeError, EncodeError, EthernetHeader, SavAsdu, SavDataSetConfig, SavPdu, SavValueConfig,
 };
-use crate::{Form, Refusal};
+use crate::{DataSets, Form, Refusal};
 
 // ---- the original's
 
@@ -96,6 +96,18 @@ pub fn read_granted(frame: &[u8], config: &SavDataSetConfig, mask: u32) -> Resul
     let mut read = Frame::default();
     read.read_granted(frame, config, mask)?;
     Ok(read)
+}
+
+/// Reads a frame as [`read_frame`] does, with the data set that is held under its first ASDU's confRev,
+/// which is answered too. Every ASDU of the frame that is answered has that confRev.
+///
+/// What [`read_frame`] refuses up to the first ASDU's confRev is refused alike; then as 15 a frame whose
+/// confRev no set is held under, or without ASDUs; then what [`read_frame`] refuses with that set; then as
+/// 16 a frame in which a later ASDU has another confRev than the first.
+pub fn read_by_sets(frame: &[u8], sets: &DataSets) -> Result<(Frame, SavDataSetConfig), Refusal> {
+    let mut read = Frame::default();
+    let set = read.read_by_sets(frame, sets)?;
+    Ok((read, set))
 }
 
 /// How many octets the writers write in this form, whatever the values or counts.

@@ -103,6 +103,33 @@ extern "C" {
         written: *mut usize,
     ) -> usize;
 
+    pub fn hopsickle_sets_add(
+        sets: *mut u32,
+        set_scales: *mut f32,
+        conf_rev: u32,
+        scales: *const f32,
+        channels: usize,
+        held: *mut usize,
+    ) -> usize;
+
+    pub fn hopsickle_read_by_sets(
+        frame: *const u8,
+        frame_len: usize,
+        sets: *const u32,
+        set_scales: *const f32,
+        channels: *mut usize,
+        scales: *mut f32,
+        numbers: *mut u32,
+        numbers_len: usize,
+        octets: *mut u8,
+        octets_len: usize,
+        counts: *mut i32,
+        counts_len: usize,
+        qualities: *mut u32,
+        qualities_len: usize,
+        place: *mut usize,
+    ) -> usize;
+
     pub fn hopsickle_write(
         numbers: *const u32,
         numbers_len: usize,
@@ -242,12 +269,76 @@ pub fn read_granted(
     read_as(Reading::Granted { mask }, frame, channels, numbers, octets, counts, qualities, place)
 }
 
+/// `hopsickle_sets_add` over slices: one scale factor for each channel.
+#[inline]
+pub fn sets_add(
+    sets: &mut [u32; SET_NUMBERS],
+    set_scales: &mut [f32; SET_SCALES],
+    conf_rev: u32,
+    scales: &[f32],
+    held: &mut usize,
+) -> usize {
+    // SAFETY: the pointers are those of arrays of the fixed lengths and of a slice of as many elements
+    // as are named after it, and those to be written are borrowed exclusively.
+    unsafe {
+        hopsickle_sets_add(
+            sets.as_mut_ptr(),
+            set_scales.as_mut_ptr(),
+            conf_rev,
+            scales.as_ptr(),
+            scales.len(),
+            held,
+        )
+    }
+}
+
+/// `hopsickle_read_by_sets` over slices: `channels` and `scales` are those of the set that is handed
+/// back.
+#[inline]
+#[allow(clippy::too_many_arguments)]
+pub fn read_by_sets(
+    frame: &[u8],
+    sets: &[u32; SET_NUMBERS],
+    set_scales: &[f32; SET_SCALES],
+    channels: &mut usize,
+    scales: &mut [f32; MAX_CHANNELS],
+    numbers: &mut [u32],
+    octets: &mut [u8],
+    counts: &mut [i32],
+    qualities: &mut [u32],
+    place: &mut usize,
+) -> usize {
+    // SAFETY: as in `sets_add`.
+    unsafe {
+        hopsickle_read_by_sets(
+            frame.as_ptr(),
+            frame.len(),
+            sets.as_ptr(),
+            set_scales.as_ptr(),
+            channels,
+            scales.as_mut_ptr(),
+            numbers.as_mut_ptr(),
+            numbers.len(),
+            octets.as_mut_ptr(),
+            octets.len(),
+            counts.as_mut_ptr(),
+            counts.len(),
+            qualities.as_mut_ptr(),
+            qualities.len(),
+            place,
+        )
+    }
+}
+
 pub const MAX_ASDUS: usize = 8;
 pub const MAX_CHANNELS: usize = 24;
 pub const MAX_SAMPLES: usize = 192;
 pub const MAX_TEXT: usize = 127;
 pub const MAX_SECURITY: usize = 64;
 pub const MAX_FRAME: usize = 1518;
+pub const MAX_SETS: usize = 32;
+pub const SET_NUMBERS: usize = 65;
+pub const SET_SCALES: usize = 768;
 
 pub const TAGGED: usize = 0;
 pub const TPID: usize = 1;
@@ -290,3 +381,20 @@ pub const ASDU_OCTETS: usize = 270;
 
 pub const MAX_NUMBERS: usize = 106;
 pub const MAX_OCTETS: usize = 2236;
+
+pub const SETS_HELD: usize = 0;
+
+/// The place of the confRev of set `i` of a store.
+pub const fn set_conf_rev(i: usize) -> usize {
+    1 + 2 * i
+}
+
+/// The place of the channels of set `i` of a store.
+pub const fn set_channels(i: usize) -> usize {
+    2 + 2 * i
+}
+
+/// The place of the scale factor of channel `j` of set `i` of a store.
+pub const fn set_scale(i: usize, j: usize) -> usize {
+    i * MAX_CHANNELS + j
+}

@@ -332,6 +332,54 @@ fn granted_reading() {
 }
 
 #[test]
+fn reading_by_sets() {
+    let (header, pdu) = full();
+    let octets = encode_smv(&header, &pdu).unwrap();
+    let (first, second) = (data_set(&[0.5]), data_set(&[0.25]));
+    let mut sets = DataSets::new();
+    assert_eq!((sets.len(), sets.is_empty(), sets.get(1)), (0, true, None));
+    assert_eq!(read_by_sets(&FRAME, &sets).err(), Some(refusal(15, 0)));
+    assert_eq!(sets.add(1, &first), Ok(1));
+    assert_eq!(sets.add(4_294_967_295, &second), Ok(2));
+
+    let (mut frame, set) = read_by_sets(&octets, &sets).unwrap();
+    let all = read_frame(&octets, &second).unwrap();
+    assert_eq!((&set, frame.no_asdu(), frame.channels()), (&second, 2, 1));
+    assert_eq!((frame.counts(), frame.values()), (all.counts(), all.values()));
+    assert_eq!((frame.header(), frame.pdu()), (all.header(), all.pdu()));
+
+    // A refusal leaves what was read before.
+    let mut pdu = pdu;
+    pdu.sav_asdu[1].conf_rev = 1;
+    let other = encode_smv(&header, &pdu).unwrap();
+    assert_eq!(frame.read_by_sets(&other, &sets), Err(refusal(16, 0)));
+    assert_eq!(frame.read_by_sets(&FRAME[..50], &sets), Err(refusal(1, 45)));
+    pdu.sav_asdu[0].conf_rev = 2;
+    let other = encode_smv(&header, &pdu).unwrap();
+    assert_eq!(frame.read_by_sets(&other, &sets), Err(refusal(15, 0)));
+    assert_eq!((frame.pdu(), frame.values()), (all.pdu(), all.values()));
+    assert_eq!(frame.read_by_sets(&FRAME, &sets), Ok(first));
+    assert_eq!((frame.no_asdu(), frame.values()), (1, &[500.0][..]));
+}
+
+#[test]
+fn store_of_data_sets() {
+    let mut sets = DataSets::default();
+    for conf_rev in 1..=32 {
+        let set = data_set(&vec![0.5; conf_rev % 25]);
+        assert_eq!(sets.add(10 * conf_rev as u32, &set), Ok(conf_rev));
+        assert_eq!((sets.len(), sets.get(10 * conf_rev as u32)), (conf_rev, Some(set)));
+    }
+    let full = sets.clone();
+    for conf_rev in [0, 10, 320, 330] {
+        assert_eq!(sets.add(conf_rev, &data_set(&[1.0])), Err(refusal(14, 0)));
+        assert_eq!(sets.add(conf_rev, &data_set(&[1.0; 25])), Err(refusal(8, 0)));
+    }
+    assert_eq!((sets.get(0), sets.get(330), &sets), (None, None, &full));
+    assert_eq!(sets.get(10), Some(data_set(&[0.5])));
+}
+
+#[test]
 fn one_frame_for_many_readings() {
     let (header, pdu) = full();
     let octets = encode_smv(&header, &pdu).unwrap();
@@ -546,7 +594,7 @@ fn data_sets() {
 
 #[test]
 fn errors() {
-    for number in (1..=11).chain([13]) {
+    for number in (1..=11).chain(13..=16) {
         let refusal = refusal(number, 7);
         assert_eq!(DecodeError::from(refusal).refusal(), Some(refusal));
         assert_eq!(EncodeError::from(refusal).refusal(), Some(refusal));

@@ -4,14 +4,15 @@
 
 mod arrays;
 mod environment;
+mod made;
 mod walk;
 
 use arrays::{frames, Arrays};
 use environment::number;
 use hopsickle::sys::{read_checked, ASDU_NUMBERS, HEAD_NUMBERS};
-use hopsickle::{encode_counts, EthernetHeader, Form, Quality, Refusal, Sample, SavAsdu, SavPdu};
+use made::{damage, framed, written};
 use oracle::frame::length_octets;
-use oracle::generate::{Random, FIRST_LENGTH_OCTETS};
+use oracle::generate::Random;
 use oracle::hex::hex;
 use std::collections::BTreeMap;
 use walk::{lent, walk, Length};
@@ -38,24 +39,8 @@ fn refusal(number: usize, place: usize, before: &Arrays) -> (usize, Arrays) {
 
 /// A frame with an ASDU for each of these length octets after 87, and samples of so many channels.
 fn made(channels: usize, lengths: &[&[u8]]) -> Vec<u8> {
-    let element =
-        |tag: u8, content: &[u8]| [&[tag][..], &length_octets(content.len(), 0), content].concat();
-    let asdu = |octets: &&[u8]| {
-        let mut content = vec![0x80, 0x01, 0x41, 0x82, 0x01, 0x05, 0x83, 0x01, 0x01];
-        content.extend([0x85, 0x01, 0x02, 0x87]);
-        content.extend(*octets);
-        content.extend([0x00, 0x00, 0x03, 0xe8, 0x00, 0x00, 0x00, 0x41].repeat(channels));
-        element(0x30, &content)
-    };
-    let asdus: Vec<u8> = lengths.iter().flat_map(asdu).collect();
-    let pdu = [&[0x80, 0x01, lengths.len() as u8][..], &element(0xa2, &asdus)].concat();
-    let pdu = element(0x60, &pdu);
-    let mut frame = vec![0x01, 0x0c, 0xcd, 0x04, 0x00, 0x01, 0x00, 0x00, 0x00, 0x00, 0x00, 0x02];
-    frame.extend([0x88, 0xba, 0x40, 0x00]);
-    frame.extend((pdu.len() as u16 + 8).to_be_bytes());
-    frame.extend([0x00, 0x00, 0x00, 0x00]);
-    frame.extend(pdu);
-    frame
+    let asdus: Vec<(u32, &[u8])> = lengths.iter().map(|length| (1, *length)).collect();
+    framed(channels, &asdus)
 }
 
 /// The length octets after 87 of ASDUs of one channel, and the place of 13 where one of them isn't 8.
@@ -159,56 +144,6 @@ fn every_number_of_channels() {
 
 // ---- generated frames
 
-fn text(random: &mut Random) -> String {
-    let most = if random.percent(10) { 127 } else { 12 };
-    (0..random.among(0, most)).map(|_| random.pick(b"ABCxyz019_/$") as char).collect()
-}
-
-fn asdu(random: &mut Random, channels: usize) -> SavAsdu {
-    let mut asdu = SavAsdu {
-        msv_id: text(random),
-        smp_cnt: random.draw() as u16 >> random.below(16),
-        conf_rev: random.draw() as u32 >> random.below(32),
-        smp_synch: random.draw() as u8 >> random.below(8),
-        ..SavAsdu::default()
-    };
-    asdu.dat_set = random.percent(50).then(|| text(random));
-    asdu.refr_tm = random.percent(50).then(|| random.draw().to_be_bytes());
-    asdu.smp_rate = random.percent(50).then(|| random.draw() as u16);
-    asdu.smp_mod = random.percent(50).then(|| random.draw() as u16);
-    asdu.gm_identity = random.percent(50).then(|| random.draw().to_be_bytes());
-    let sample = |_| Sample::new(0.0, Quality::from_sv(random.draw() as u32 & 0x1fff), 1.0);
-    asdu.all_data = (0..channels).map(sample).collect();
-    asdu
-}
-
-/// A frame of so many channels as the library writes it, of one to eight ASDUs as far as they fit.
-fn written(random: &mut Random, channels: usize) -> Vec<u8> {
-    let tagged = random.percent(50);
-    let header = EthernetHeader {
-        dst_addr: [0x01, 0x0c, 0xcd, 0x04, 0x00, random.draw() as u8],
-        tpid: tagged.then_some([0x81, 0x00]),
-        tci: tagged.then(|| [0x80, random.draw() as u8]),
-        ether_type: [0x88, 0xba],
-        ..EthernetHeader::default()
-    };
-    let security = random.percent(30).then(|| vec![random.draw() as u8; random.among(0, 64)]);
-    let most = random.pick(&[1, 8]);
-    let asdus = (0..random.among(1, most)).map(|_| asdu(random, channels)).collect();
-    let mut pdu =
-        SavPdu { sim: random.percent(50), security, sav_asdu: asdus, ..SavPdu::default() };
-    let counts: Vec<i32> = (0..8 * channels).map(|_| random.draw() as i32).collect();
-    let form = random.pick(&[Form::Shortest, Form::Fixed]);
-    loop {
-        pdu.no_asdu = pdu.sav_asdu.len() as u16;
-        match encode_counts(&header, &pdu, &counts, form) {
-            Ok(frame) => return frame,
-            Err(refusal) => assert_eq!(refusal.number, Refusal::TOO_LONG_TO_WRITE),
-        }
-        pdu.sav_asdu.pop();
-    }
-}
-
 /// A number for a length: that of so many channels, near to it or with the same last octet, that of any
 /// number of channels, or any.
 fn other_length(random: &mut Random, channels: usize) -> usize {
@@ -261,24 +196,14 @@ fn case(random: &mut Random, generated: &mut impl Iterator<Item = (usize, Vec<u8
     let of_generator = if random.percent(20) { generated.next() } else { None };
     let (made_for, mut frame) = of_generator.unwrap_or_else(|| {
         let channels = random.among(0, 24);
-        (channels, written(random, channels))
+        (channels, written(random, channels, |_, _| ()))
     });
     let channels = if random.percent(15) { random.among(0, 25) } else { made_for };
     let (lengths, _) = walk(&frame, channels);
     if !lengths.is_empty() && random.percent(60) {
         alter_lengths(random, channels, &mut frame, &lengths);
     }
-    match random.below(8) {
-        0 => frame.truncate(random.among(0, frame.len())),
-        1 if !frame.is_empty() => {
-            let place = random.below(frame.len());
-            frame[place] = match random.below(2) {
-                0 => random.pick(&FIRST_LENGTH_OCTETS),
-                _ => random.draw() as u8,
-            };
-        }
-        _ => (),
-    }
+    damage(random, &mut frame);
     Case { frame, made_for, channels }
 }
 

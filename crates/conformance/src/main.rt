@@ -1,5 +1,6 @@
 // Prints the conformance list: frames with their descriptions, descriptions that a writer refuses,
-// and octets with what reading answers. The list's format stands in its own first lines.
+// octets with what reading answers, and additions of data sets. The list's format stands in its own
+// first lines.
 mod block;
 mod calls;
 mod checks;
@@ -12,6 +13,7 @@ mod reads;
 mod records;
 mod refusals;
 mod samples;
+mod sets;
 
 use crate::print::say;
 
@@ -27,6 +29,7 @@ fn main() {
     calls::print();
     grants::print();
     checks::print();
+    sets::print();
 }
 
 // The first lines: what blocks there are.
@@ -57,6 +60,8 @@ fn print_format() {
     say(b"#   the lines of the description that was read\n");
     print_granted();
     print_checked();
+    print_added();
+    print_by_sets();
     say(b"#\n");
 }
 
@@ -76,6 +81,25 @@ fn print_checked() {
     say(b"#   channels N, counts N, qualities N, octets HEX\n");
     say(b"#   ordinary accepted, or ordinary refused N P\n");
     say(b"#   checked accepted, or checked refused N P, and where it accepts\n");
+    say(b"#   length N and the lines of the description\n");
+}
+
+// The first lines: the block of an addition.
+fn print_added() {
+    say(b"# added NAME         what an addition to the data sets answers\n");
+    say(b"#   held CONFREV CHANNELS for each set that is held, from the first on\n");
+    say(b"#   confRev N, channels N, the set that is added\n");
+    say(b"#   added accepted N, how many sets are held then, or added refused N P\n");
+}
+
+// The first lines: the block of a reading by confRev.
+fn print_by_sets() {
+    say(
+        b"# by sets NAME       what reading with the data set of the first ASDU's confRev answers\n",
+    );
+    say(b"#   held CONFREV CHANNELS for each set, counts N, qualities N, octets HEX\n");
+    say(b"#   by sets accepted, or by sets refused N P, and where it accepts\n");
+    say(b"#   set CHANNELS       the set that is handed back\n");
     say(b"#   length N and the lines of the description\n");
 }
 

@@ -5,5 +5,6 @@ pub mod Spans
 pub mod Stores
 pub mod Found
 pub mod Gathered
+pub mod Check
 pub mod Told
 pub mod Frame

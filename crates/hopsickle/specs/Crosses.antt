@@ -1,12 +1,12 @@
 -- What each call leaves for its caller: the refusal's number, or 0; beside it the refusal's place, or a size; and the lent arrays.
 use mathlib.Core.Path.{_≡_, refl, sym, ap, _∙_}
-use mathlib.Core.List.{List, [], _∷_, _++_}
-use mathlib.Core.Logic.{_⊎_, inl, inr}
+use mathlib.Core.List.{List, _++_}
+use mathlib.Core.Logic.{inl, inr}
 use mathlib.Core.Bool.{false}
 use Prim.Native.Nat.{ℕ, zero, suc, _-_, _*_, _%_, _≤_, _<_}
 use native.Mathlib.Nat.{mul-zero, mod-lt, eq-zero-or-pos}
 use native.Mathlib.Omega.{arith}
-use lib.ListN.{length, take, drop, replicate, length-append, List·getD-append}
+use lib.ListN.{length, take, replicate, length-append, List·getD-append}
 use lib.IntN.{ℤ}
 use lib.Ieee.{Float, nan}
 use borrow.Author.Tests.{lt-ltb, le-ltb}
@@ -22,8 +22,8 @@ use Rattle.flat_decode.specs.declared.FlatRead.the-variants as flat
 use Rattle.flat_decode.specs.Told.{toldFlat, Left}
 use Rattle.flat_decode.specs.Numbers.{headOf}
 use Rattle.flat_decode.specs.Stores.{put-next}
-use Rattle.flat_encode.specs.Values.{noScale, dataSetOf}
 use Rattle.ber_encode.specs.Put.{put, put-over}
+use Rattle.rt_services.specs.DataSet.{noScale, dataSetOf}
 use Rattle.rt_services.specs.Describe.{headerOf}
 use Rattle.rt_services.specs.declared.Refusal.{Refusal}
 use Rattle.rt_services.specs.declared.EthernetHeader.{EthernetHeader}
@@ -32,6 +32,10 @@ use Rattle.rt_services.specs.declared.Presence.the-variants as presence
 use Rattle.ethernet_header.specs.Header.{headerRead, noHeader}
 use Rattle.ethernet_header.specs.declared.HeaderRead.{HeaderRead}
 use Rattle.ethernet_header.specs.declared.HeaderEnd.the-variants as end
+use Rattle.data_sets.specs.DataSets.{add, readOf, storeAdd, numbersAfter, scalesAfter, channelsHanded, scalesHanded}
+use Rattle.set_store.specs.declared.Addition.{Addition}
+use Rattle.set_store.specs.declared.Addition.the-variants as added
+use Rattle.set_store.specs.Told.{toldAddition, countHeld, AddedTo}
 use Rattle.scaling.specs.declared.Valued.{Valued}
 use Rattle.scaling.specs.Told.{toldValues}
 
@@ -52,6 +56,12 @@ pub record Reads (x : Answer (Description × ℕ)) (k k′ o o′ : List ℕ) (c
   pub octets : o′ ≡ left octetsOf x o
   pub counts : cs′ ≡ left (λ y. allCounts (y .0 .asdus)) x cs
   pub qualities : qs′ ≡ left (λ y. allQualities (y .0 .asdus)) x qs
+
+-- a reading by confRev: the set's channels and scale factors besides
+pub record ReadsBy (x : Answer (SavDataSetConfig × (Description × ℕ))) (k k′ o o′ : List ℕ) (cs cs′ : List ℤ) (qs qs′ : List ℕ) (n n′ : ℕ) (fs fs′ : List Float) (r beside : ℕ) : Type 0 where
+  pub read : Reads (readOf x) k k′ o o′ cs cs′ qs qs′ r beside
+  pub channels : n′ ≡ channelsHanded x n
+  pub scales : fs′ ≡ scalesHanded x fs
 
 -- a header's reading; beside the number stands the place after the header
 pub record ReadsHeader (x : Answer (Header × ℕ)) (k k′ o o′ : List ℕ) (r beside : ℕ) : Type 0 where
@@ -188,3 +198,41 @@ module _ (scales : List Float) (noASDU : ℕ) (counts : List ℤ) (old : List Fl
         size = ap (besideIt (λ n. n)) (sym g ∙ a);
         array = rw (← a) (l ∙ rw (values-only scales counts noASDU));
       }
+
+-- ---- an addition
+
+module _ (k : List ℕ) (f : List Float) (rev : ℕ) (scales : List Float) where
+  -- what an addition of these scale factors answers
+  abbrev addition : Answer (List (ℕ × SavDataSetConfig))
+  addition = storeAdd k f rev (dataSetOf scales)
+
+  abbrev Adds : ℕ → ℕ → List ℕ → List Float → Type 0
+  Adds r held k′ f′ = (r ≡ numberOf addition) × (held ≡ besideIt length addition) × (k′ ≡ numbersAfter addition k rev (dataSetOf scales)) × (f′ ≡ scalesAfter addition k f (dataSetOf scales))
+
+  pub adds-many : maxChannels < length scales → Adds tooManyChannels 0 k f
+  unfolding add dataSetOf
+  adds-many h = rw (lt-ltb maxChannels (length scales) h) (refl, refl, refl, refl)
+
+  module _ {set : SavDataSetConfig} (is : set ≡ dataSetOf scales) {x : Addition} {k′ : List ℕ} {f′ : List Float} (e : AddedTo rev set k f x k′ f′) where
+    told-is : toldAddition x ≡ countHeld addition
+    told-is = rw is at (e .told)
+
+    numbers-are : k′ ≡ numbersAfter addition k rev (dataSetOf scales)
+    numbers-are = rw is at (e .numbers)
+
+    scales-are : f′ ≡ scalesAfter addition k f (dataSetOf scales)
+    scales-are = rw is at (e .scales)
+
+    pub adds-refused : {z : Refusal} → x ≡ added.Refused z → Adds (z .number) (z .place) k′ f′
+    adds-refused {z} w = (go addition (sym (ap toldAddition w) ∙ told-is) .0, go addition (sym (ap toldAddition w) ∙ told-is) .1, numbers-are, scales-are)
+      where
+        go : (r : Answer (List (ℕ × SavDataSetConfig))) → refusal (z .number) (z .place) ≡ countHeld r → (z .number ≡ numberOf r) × (z .place ≡ besideIt length r)
+        go (refusal n p) g = (cc, cc)
+        go (accepted l) g = let v : _≡_ {A = ℕ} 0 1 = cc in absurd (omega arith)
+
+    pub adds-taken : {m : ℕ} → x ≡ added.Taken m → Adds 0 m k′ f′
+    adds-taken {m} w = (go addition (sym (ap toldAddition w) ∙ told-is) .0, go addition (sym (ap toldAddition w) ∙ told-is) .1, numbers-are, scales-are)
+      where
+        go : (r : Answer (List (ℕ × SavDataSetConfig))) → accepted m ≡ countHeld r → (0 ≡ numberOf r) × (m ≡ besideIt length r)
+        go (refusal n p) g = let v : _≡_ {A = ℕ} 0 1 = cc in absurd (omega arith)
+        go (accepted l) g = (refl, cc)

@@ -1,3 +1,4 @@
 pub mod Crosses
 pub mod Customer
 pub mod Alike
+pub mod Sets

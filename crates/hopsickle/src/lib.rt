@@ -13,10 +13,12 @@ ghost use Rattle.definition.specs.Scaling.{valuesAnswer, valuesOf};
 ghost use Rattle.definition.specs.Flat.{headerNumbers, headerOctets, numbersOfHeader, octetsOfHeader, flatDescription, flatHeader, flatRead, flatDecode, flatStrict, flatEncode, flatEncodeValues, flatSize, numberOf, besideIt};
 ghost use Rattle.grant.specs.Grant.{flatGranted};
 ghost use Rattle.fit.specs.Fit.{flatChecked};
+ghost use Rattle.data_sets.specs.DataSets.{flatReadBy, storeOf, channelsOf, storeAdd, numbersAfter, scalesAfter};
+ghost use Rattle.rt_services.specs.DataSet.{dataSetOf};
 ghost use Rattle.rt_services.specs.Describe.{headerOf};
 ghost use Rattle.ber_encode.specs.Told.{told};
 ghost use Rattle.flat_encode.specs.Values.{countsFor, countsIn, describedBy};
-ghost use Rattle.hopsickle.specs.Crosses.{flatNumber, flatPlace, Reads, ReadsHeader, Writes};
+ghost use Rattle.hopsickle.specs.Crosses.{flatNumber, flatPlace, Reads, ReadsBy, ReadsHeader, Writes};
 use ber_encode::Written;
 use ethernet_header::HeaderEnd;
 use flat_decode::FlatRead;
@@ -25,6 +27,8 @@ use rt_services::Presence;
 use rt_services::Refusal;
 use rt_services::SavDataSetConfig;
 use scaling::Valued;
+use set_store::Addition;
+use set_store::DataSets;
 
 // The number of a refusal, and its place; 0 and 0 where there is none.
 fn answer(read: FlatRead, place: &mut usize) -> usize
@@ -208,6 +212,71 @@ pub extern "C" fn hopsickle_read_granted(
         frame,
         channels,
         mask,
+        numbers,
+        octets,
+        counts,
+        qualities,
+    );
+    answer(read, place)
+}
+
+// Adds a data set to those of a store: one scale factor for each channel. Writes how many sets the
+// store then holds.
+#[no_mangle]
+pub extern "C" fn hopsickle_sets_add(
+    sets: &mut [u32; DataSets::NUMBERS],
+    set_scales: &mut [f32; DataSets::SCALES],
+    conf_rev: u32,
+    scales: &[f32],
+    held: &mut usize,
+) -> usize
+    ensures { λ r. ⌜ (r ≡ numberOf (storeAdd (now (sets .entry)) (now («set_scales» .entry)) «conf_rev» (dataSetOf (now (scales .entry)))))
+        × (now (held .exit) ≡ besideIt length (storeAdd (now (sets .entry)) (now («set_scales» .entry)) «conf_rev» (dataSetOf (now (scales .entry)))))
+        × (now (sets .exit) ≡ numbersAfter (storeAdd (now (sets .entry)) (now («set_scales» .entry)) «conf_rev» (dataSetOf (now (scales .entry)))) (now (sets .entry)) «conf_rev» (dataSetOf (now (scales .entry))))
+        × (now («set_scales» .exit) ≡ scalesAfter (storeAdd (now (sets .entry)) (now («set_scales» .entry)) «conf_rev» (dataSetOf (now (scales .entry)))) (now (sets .entry)) (now («set_scales» .entry)) (dataSetOf (now (scales .entry)))) ⌝ }
+{
+    if SavDataSetConfig::MAX_CHANNELS < scales.len() {
+        *held = 0;
+        return Refusal::TOO_MANY_CHANNELS;
+    }
+    let set = flat_encode::data_set(scales);
+    let added = set_store::add_to(sets, set_scales, conf_rev, set);
+    match added {
+        Addition::Refused(r) => {
+            *held = r.place;
+            r.number
+        }
+        Addition::Taken(m) => {
+            *held = m;
+            0
+        }
+    }
+}
+
+// A frame, the ordinary way, with the data set of its first ASDU's confRev, whose channels and scale
+// factors are handed back.
+#[no_mangle]
+pub extern "C" fn hopsickle_read_by_sets(
+    frame: &[u8],
+    sets: &[u32; DataSets::NUMBERS],
+    set_scales: &[f32; DataSets::SCALES],
+    channels: &mut usize,
+    scales: &mut [f32; SavDataSetConfig::MAX_CHANNELS],
+    numbers: &mut [u32],
+    octets: &mut [u8],
+    counts: &mut [i32],
+    qualities: &mut [u32],
+    place: &mut usize,
+) -> usize
+    ensures { λ r. ⌜ ReadsBy (flatReadBy channelsOf (storeOf (now (sets .entry)) (now («set_scales» .entry))) (length (now (numbers .entry))) (length (now (octets .entry))) (length (now (counts .entry))) (length (now (qualities .entry))) (now (frame .entry)))
+        (now (numbers .entry)) (now (numbers .exit)) (now (octets .entry)) (now (octets .exit)) (now (counts .entry)) (now (counts .exit)) (now (qualities .entry)) (now (qualities .exit)) (now (channels .entry)) (now (channels .exit)) (now (scales .entry)) (now (scales .exit)) r (now (place .exit)) ⌝ }
+{
+    let read = flat_by_sets::read_by_sets(
+        frame,
+        sets,
+        set_scales,
+        channels,
+        scales,
         numbers,
         octets,
         counts,

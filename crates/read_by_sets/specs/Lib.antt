@@ -1,0 +1,4 @@
+pub mod Told
+pub mod First
+pub mod Whole
+pub mod Alike

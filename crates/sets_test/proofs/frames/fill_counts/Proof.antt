@@ -1,0 +1,72 @@
+-- Each turn stores one count.
+use Prim.Native.Nat.{_-_}
+use lib.ListN.{length}
+use mathlib.Core.Path.{_≡_}
+use borrow.Author.Needs.{needs}
+use Rattle.sets_test.proofs.frames.fill_counts.Statement.{statement}
+use Rattle.sets_test.proofs.frames.fill_counts.Tie as tie
+use Rattle.sets_test.proofs.frames.fill_counts.Reads as reads
+use Rattle.sets_test.proofs.frames.fill_counts.Lts as lts
+use Rattle.decode_smv.proofs.samples.signed.Reads as signed-reads
+use Rattle.sets_test.proofs.draw.draw.Reads as draw-reads
+
+abbrev Inv-loop : tie.InvT-loop
+Inv-loop stream counts₀ i₀ counts i = length counts ≡ length counts₀
+
+abbrev μ-loop : tie.MeasureT-loop
+μ-loop stream counts₀ i₀ counts i = length counts₀ - i
+
+loop-holds : tie.Need-loop-holds Inv-loop μ-loop
+loop-holds c = search needs
+
+add-draw : tie.Need-add-draw Inv-loop μ-loop
+add-draw c = search needs
+
+cast-draw : tie.Need-cast-draw Inv-loop μ-loop
+cast-draw c = search needs
+
+draw-requires : tie.Need-draw-requires Inv-loop μ-loop
+draw-requires c κs = search needs
+
+signed-requires : tie.Need-signed-requires Inv-loop μ-loop
+signed-requires c κs = search needs
+
+mul-count : tie.Need-mul-count Inv-loop μ-loop
+mul-count c = search needs
+
+slice-set-from-count : tie.Need-slice-set-from-count Inv-loop μ-loop
+slice-set-from-count c = search needs
+
+add-i : tie.Need-add-i Inv-loop μ-loop
+add-i c = search needs
+
+loop-less : tie.Need-loop-less Inv-loop μ-loop
+loop-less c = search needs
+
+loop-again : tie.Need-loop-again Inv-loop μ-loop
+loop-again c = search needs
+
+same-length : tie.Need-same-length Inv-loop μ-loop
+same-length c = search needs
+
+returns : tie.Need-returns Inv-loop μ-loop
+returns c = search needs
+
+pub fill-counts-spec : {M : Type 1} → statement M
+fill-counts-spec =
+    tie.close
+    (tie.spec
+    Inv-loop
+    μ-loop
+    loop-holds
+    add-draw
+    cast-draw
+    draw-requires
+    signed-requires
+    mul-count
+    slice-set-from-count
+    add-i
+    loop-less
+    loop-again
+    same-length
+    returns)

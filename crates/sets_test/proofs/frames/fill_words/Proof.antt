@@ -1,0 +1,67 @@
+-- Each turn stores one quality word.
+use Prim.Native.Nat.{_-_}
+use lib.ListN.{length}
+use mathlib.Core.Path.{_≡_}
+use borrow.Author.Needs.{needs}
+use Rattle.sets_test.proofs.frames.fill_words.Statement.{statement}
+use Rattle.sets_test.proofs.frames.fill_words.Tie as tie
+use Rattle.sets_test.proofs.frames.fill_words.Reads as reads
+use Rattle.sets_test.proofs.frames.fill_words.Lts as lts
+use Rattle.sets_test.proofs.draw.draw.Reads as draw-reads
+
+abbrev Inv-loop : tie.InvT-loop
+Inv-loop stream words₀ i₀ words i = length words ≡ length words₀
+
+abbrev μ-loop : tie.MeasureT-loop
+μ-loop stream words₀ i₀ words i = length words₀ - i
+
+loop-holds : tie.Need-loop-holds Inv-loop μ-loop
+loop-holds c = search needs
+
+add-draw : tie.Need-add-draw Inv-loop μ-loop
+add-draw c = search needs
+
+cast-draw : tie.Need-cast-draw Inv-loop μ-loop
+cast-draw c = search needs
+
+draw-requires : tie.Need-draw-requires Inv-loop μ-loop
+draw-requires c κs = search needs
+
+mul-words : tie.Need-mul-words Inv-loop μ-loop
+mul-words c = search needs
+
+slice-write-words : tie.Need-slice-write-words Inv-loop μ-loop
+slice-write-words c = search needs
+
+add-i : tie.Need-add-i Inv-loop μ-loop
+add-i c = search needs
+
+loop-less : tie.Need-loop-less Inv-loop μ-loop
+loop-less c = search needs
+
+loop-again : tie.Need-loop-again Inv-loop μ-loop
+loop-again c = search needs
+
+same-length : tie.Need-same-length Inv-loop μ-loop
+same-length c = search needs
+
+returns : tie.Need-returns Inv-loop μ-loop
+returns c = search needs
+
+pub fill-words-spec : {M : Type 1} → statement M
+fill-words-spec =
+    tie.close
+    (tie.spec
+    Inv-loop
+    μ-loop
+    loop-holds
+    add-draw
+    cast-draw
+    draw-requires
+    mul-words
+    slice-write-words
+    add-i
+    loop-less
+    loop-again
+    same-length
+    returns)

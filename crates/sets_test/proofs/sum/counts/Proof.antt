@@ -1,0 +1,59 @@
+-- Each turn takes one count.
+use Prim.Native.Nat.{_-_}
+use lib.ListN.{length}
+use borrow.Author.Needs.{needs}
+use Rattle.sets_test.proofs.sum.counts.Statement.{statement}
+use Rattle.sets_test.proofs.sum.counts.Tie as tie
+use Rattle.sets_test.proofs.sum.counts.Reads as reads
+use Rattle.sets_test.proofs.sum.counts.Lts as lts
+use Rattle.sets_test.proofs.sum.with.Reads as with-reads
+use Rattle.sets_test.proofs.sum.word_of.Reads as word-of-reads
+
+abbrev Inv-loop : tie.InvT-loop
+Inv-loop start s sum₀ i₀ sum i = Unit {0}
+
+abbrev μ-loop : tie.MeasureT-loop
+μ-loop start s sum₀ i₀ sum i = length s - i
+
+loop-holds : tie.Need-loop-holds Inv-loop μ-loop
+loop-holds c = search needs
+
+mul-word-of : tie.Need-mul-word-of Inv-loop μ-loop
+mul-word-of c = search needs
+
+shared-slice-copy-out-word-of : tie.Need-shared-slice-copy-out-word-of Inv-loop μ-loop
+shared-slice-copy-out-word-of c = search needs
+
+word-of-requires : tie.Need-word-of-requires Inv-loop μ-loop
+word-of-requires c κs = search needs
+
+with-requires : tie.Need-with-requires Inv-loop μ-loop
+with-requires c κs = search needs
+
+add-i : tie.Need-add-i Inv-loop μ-loop
+add-i c = search needs
+
+loop-less : tie.Need-loop-less Inv-loop μ-loop
+loop-less c = search needs
+
+loop-again : tie.Need-loop-again Inv-loop μ-loop
+loop-again c = search needs
+
+returns : tie.Need-returns Inv-loop μ-loop
+returns c = search needs
+
+pub counts-spec : {M : Type 1} → statement M
+counts-spec =
+    tie.close
+    (tie.spec
+    Inv-loop
+    μ-loop
+    loop-holds
+    mul-word-of
+    shared-slice-copy-out-word-of
+    word-of-requires
+    with-requires
+    add-i
+    loop-less
+    loop-again
+    returns)
