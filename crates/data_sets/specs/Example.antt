@@ -16,7 +16,7 @@ channels x = x
 -- ---- additions
 
 -- the first; a higher one; 14 for an equal and for a lower one; 8, also where it isn't higher
-added-so :
+pub added-so :
     add channels [] 7 8
     ∷ add channels ((7, 8) ∷ []) 9 24
     ∷ add channels ((7, 8) ∷ []) 7 8
@@ -29,28 +29,28 @@ unfolding add higher all and
 added-so = refl
 
 -- n sets of one channel, from this confRev upward
-unfoldable sets : ℕ → ℕ → List (ℕ × ℕ)
+unfoldable pub sets : ℕ → ℕ → List (ℕ × ℕ)
 sets zero rev = []
 sets (suc n) rev = (rev, 1) ∷ sets n (suc rev)
 
 -- all 32 are taken from an empty store, one after the other
-thirty-two : stored channels [] (sets 32 1) ≡ sets 32 1
+pub thirty-two : stored channels [] (sets 32 1) ≡ sets 32 1
 unfolding stored added add higher all and sets
 thirty-two = refl
 
 -- the thirty-third is refused 14, and 8 stands before that
-thirty-third : add channels (sets 32 1) 33 1 ∷ add channels (sets 32 1) 33 25 ∷ [] ≡ refusal 14 0 ∷ refusal 8 0 ∷ []
+pub thirty-third : add channels (sets 32 1) 33 1 ∷ add channels (sets 32 1) 33 25 ∷ [] ≡ refusal 14 0 ∷ refusal 8 0 ∷ []
 unfolding add higher all and sets
 thirty-third = refl
 
 -- ---- readings
 
 -- an ASDU of this confRev, in 23 octets: 30, svID, smpCnt, confRev, smpSynch, 87 and one sample
-unfoldable asdu : ℕ → List ℕ
+unfoldable pub asdu : ℕ → List ℕ
 asdu rev = 0x30 ∷ 21 ∷ 0x80 ∷ 0 ∷ 0x82 ∷ 1 ∷ 5 ∷ 0x83 ∷ 1 ∷ rev ∷ 0x85 ∷ 1 ∷ 2 ∷ 0x87 ∷ 8 ∷ 0 ∷ 0 ∷ 0 ∷ 1 ∷ 0 ∷ 0 ∷ 0 ∷ 2 ∷ []
 
 -- the header; 60, noASDU, A2 at 27, and the ASDUs, of which the first starts at 29 and has its confRev at 38
-unfoldable frame : ℕ → List ℕ → List ℕ
+unfoldable pub frame : ℕ → List ℕ → List ℕ
 frame noASDU asdus =
     (1 ∷ 2 ∷ 3 ∷ 4 ∷ 5 ∷ 6 ∷ 6 ∷ 5 ∷ 4 ∷ 3 ∷ 2 ∷ 1 ∷ 0x88 ∷ 0xBA ∷ 0x40 ∷ 0 ∷ 0 ∷ 61 ∷ 0 ∷ 0 ∷ 0 ∷ 0
     ∷ 0x60 ∷ 51 ∷ 0x80 ∷ 1 ∷ noASDU ∷ 0xA2 ∷ 46 ∷ [])
@@ -62,9 +62,14 @@ one rev = frame 1 (asdu rev)
 abbrev two : ℕ → ℕ → List ℕ
 two rev later = frame 2 (asdu rev ++ asdu later)
 
+-- the first two of one confRev
+abbrev three : ℕ → ℕ → List ℕ
+three rev last = frame 3 (asdu rev ++ (asdu rev ++ asdu last))
+
 -- 15: no set for the confRev; a set for the second ASDU's alone; no ASDU. Before 15: octets that end before A2's length. After it:
--- octets that end after the confRev, with no set and with one. Two confRevs: 16, and 7 before it
-refused-so :
+-- octets that end after the confRev, with no set and with one. Two confRevs: 16, also where only the third ASDU's is another, and 7
+-- before it
+pub refused-so :
     readBy channels ((7, 1) ∷ []) 2 2 (one 8)
     ∷ readBy channels ((9, 1) ∷ []) 2 2 (two 7 9)
     ∷ readBy channels ((7, 1) ∷ []) 2 2 (frame 0 [])
@@ -72,9 +77,10 @@ refused-so :
     ∷ readBy channels ((9, 1) ∷ []) 2 2 (take 39 (one 7))
     ∷ readBy channels ((7, 1) ∷ []) 2 2 (take 39 (one 7))
     ∷ readBy channels ((7, 1) ∷ (9, 1) ∷ []) 2 2 (two 7 9)
+    ∷ readBy channels ((7, 1) ∷ (9, 1) ∷ []) 3 3 (three 7 9)
     ∷ readBy channels ((7, 1) ∷ (9, 1) ∷ []) 2 1 (two 7 9)
     ∷ []
-    ≡ refusal 15 0 ∷ refusal 15 0 ∷ refusal 15 0 ∷ refusal 1 27 ∷ refusal 15 0 ∷ refusal 1 39 ∷ refusal 16 0 ∷ refusal 7 0 ∷ []
+    ≡ refusal 15 0 ∷ refusal 15 0 ∷ refusal 15 0 ∷ refusal 1 27 ∷ refusal 15 0 ∷ refusal 1 39 ∷ refusal 16 0 ∷ refusal 16 0 ∷ refusal 7 0 ∷ []
 unfolding frame asdu readBy readWith firstRev revFrom revAt find oneRev all startAt noAsduAt ordinaryRead readFrame heldBy described and headAt beAt spanAt numberAt uintAt textAt refrTmAt gmIdentityAt hasAt optionalAt signedOf samplesAt asduAt asdusAt pduAt tagged simulationOf headerFrom headerAt
 refused-so = refl
 
@@ -84,7 +90,7 @@ handed (accepted x) = some (x .0)
 handed (refusal k p) = none
 
 -- the set of the confRev, of two; two ASDUs of one confRev
-accepted-so :
+pub accepted-so :
     map handed (
     readBy channels ((7, 0) ∷ (9, 1) ∷ []) 1 1 (one 7)
     ∷ readBy channels ((7, 0) ∷ (9, 1) ∷ []) 1 1 (one 9)

@@ -1,6 +1,6 @@
 pub mod DataSets
-pub mod Arrays
+pub mod Example
 pub mod Store
 pub mod First
 pub mod Theorems
-pub mod Example
+pub mod TwoArrays

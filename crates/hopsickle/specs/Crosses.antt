@@ -32,7 +32,7 @@ use Rattle.rt_services.specs.declared.Presence.the-variants as presence
 use Rattle.ethernet_header.specs.Header.{headerRead, noHeader}
 use Rattle.ethernet_header.specs.declared.HeaderRead.{HeaderRead}
 use Rattle.ethernet_header.specs.declared.HeaderEnd.the-variants as end
-use Rattle.data_sets.specs.DataSets.{add, readOf, storeAdd, numbersAfter, scalesAfter, channelsHanded, scalesHanded}
+use Rattle.data_sets.specs.DataSets.{add, readOf, storeAdd, Adds, channelsHanded, scalesHanded}
 use Rattle.set_store.specs.declared.Addition.{Addition}
 use Rattle.set_store.specs.declared.Addition.the-variants as added
 use Rattle.set_store.specs.Told.{toldAddition, countHeld, AddedTo}
@@ -202,37 +202,32 @@ module _ (scales : List Float) (noASDU : ℕ) (counts : List ℤ) (old : List Fl
 -- ---- an addition
 
 module _ (k : List ℕ) (f : List Float) (rev : ℕ) (scales : List Float) where
-  -- what an addition of these scale factors answers
-  abbrev addition : Answer (List (ℕ × SavDataSetConfig))
-  addition = storeAdd k f rev (dataSetOf scales)
+  -- an addition of the data set of these scale factors
+  abbrev AddsThese : List ℕ → List Float → ℕ → ℕ → Type 0
+  AddsThese k′ f′ r held = Adds rev (dataSetOf scales) k k′ f f′ r held
 
-  abbrev Adds : ℕ → ℕ → List ℕ → List Float → Type 0
-  Adds r held k′ f′ = (r ≡ numberOf addition) × (held ≡ besideIt length addition) × (k′ ≡ numbersAfter addition k rev (dataSetOf scales)) × (f′ ≡ scalesAfter addition k f (dataSetOf scales))
-
-  pub adds-many : maxChannels < length scales → Adds tooManyChannels 0 k f
+  pub adds-many : maxChannels < length scales → AddsThese k f tooManyChannels 0
   unfolding add dataSetOf
-  adds-many h = rw (lt-ltb maxChannels (length scales) h) (refl, refl, refl, refl)
+  adds-many h = let e = lt-ltb maxChannels (length scales) h in record { number = rw e; held = rw e; numbers = rw e; scales = rw e }
 
   module _ {set : SavDataSetConfig} (is : set ≡ dataSetOf scales) {x : Addition} {k′ : List ℕ} {f′ : List Float} (e : AddedTo rev set k f x k′ f′) where
-    told-is : toldAddition x ≡ countHeld addition
-    told-is = rw is at (e .told)
-
-    numbers-are : k′ ≡ numbersAfter addition k rev (dataSetOf scales)
-    numbers-are = rw is at (e .numbers)
-
-    scales-are : f′ ≡ scalesAfter addition k f (dataSetOf scales)
-    scales-are = rw is at (e .scales)
-
-    pub adds-refused : {z : Refusal} → x ≡ added.Refused z → Adds (z .number) (z .place) k′ f′
-    adds-refused {z} w = (go addition (sym (ap toldAddition w) ∙ told-is) .0, go addition (sym (ap toldAddition w) ∙ told-is) .1, numbers-are, scales-are)
+    -- the answer of the store, as two numbers
+    adds : (a : Answer ℕ) → toldAddition x ≡ a → AddsThese k′ f′ (numberOf a) (besideIt (λ n. n) a)
+    adds a w =
+        let told : a ≡ countHeld (storeAdd k f rev (dataSetOf scales)) = sym w ∙ (rw is at (e .told)) in
+        record {
+          number = ap numberOf told ∙ go (storeAdd k f rev (dataSetOf scales)) .0;
+          held = ap (besideIt (λ n. n)) told ∙ go (storeAdd k f rev (dataSetOf scales)) .1;
+          numbers = rw is at (e .numbers);
+          scales = rw is at (e .scales);
+        }
       where
-        go : (r : Answer (List (ℕ × SavDataSetConfig))) → refusal (z .number) (z .place) ≡ countHeld r → (z .number ≡ numberOf r) × (z .place ≡ besideIt length r)
-        go (refusal n p) g = (cc, cc)
-        go (accepted l) g = let v : _≡_ {A = ℕ} 0 1 = cc in absurd (omega arith)
+        go : (r : Answer (List (ℕ × SavDataSetConfig))) → (numberOf (countHeld r) ≡ numberOf r) × (besideIt (λ n. n) (countHeld r) ≡ besideIt length r)
+        go (refusal n p) = (refl, refl)
+        go (accepted l) = (refl, refl)
 
-    pub adds-taken : {m : ℕ} → x ≡ added.Taken m → Adds 0 m k′ f′
-    adds-taken {m} w = (go addition (sym (ap toldAddition w) ∙ told-is) .0, go addition (sym (ap toldAddition w) ∙ told-is) .1, numbers-are, scales-are)
-      where
-        go : (r : Answer (List (ℕ × SavDataSetConfig))) → accepted m ≡ countHeld r → (0 ≡ numberOf r) × (m ≡ besideIt length r)
-        go (refusal n p) g = let v : _≡_ {A = ℕ} 0 1 = cc in absurd (omega arith)
-        go (accepted l) g = (refl, cc)
+    pub adds-refused : {z : Refusal} → x ≡ added.Refused z → AddsThese k′ f′ (z .number) (z .place)
+    adds-refused {z} w = adds (refusal (z .number) (z .place)) (ap toldAddition w)
+
+    pub adds-taken : {m : ℕ} → x ≡ added.Taken m → AddsThese k′ f′ 0 m
+    adds-taken {m} w = adds (accepted m) (ap toldAddition w)

@@ -2,8 +2,7 @@
 -- a result of one call is, the contract of the other says it is. Over any results that meet the contracts.
 use mathlib.Core.Path.{_≡_, refl, sym, ap, _∙_}
 use mathlib.Core.List.{List, [], _∷_, _++_}
-use Prim.Native.Nat.{ℕ, _≤_}
-use lib.ListN.{length}
+use Prim.Native.Nat.{ℕ}
 use lib.IntN.{ℤ}
 use lib.Ieee.{Float}
 use Rattle.definition.specs.Limits.{maxChannels, noSet}
@@ -13,18 +12,18 @@ use Rattle.definition.specs.Answers.{Answer, accepted, refusal}
 use Rattle.definition.specs.Flat.{numberOf, flatRead}
 use Rattle.rt_services.specs.DataSet.{noScale, dataSetOf}
 use Rattle.rt_services.specs.declared.SavDataSetConfig.{SavDataSetConfig}
-use Rattle.data_sets.specs.DataSets.{readOf, flatReadBy, storeOf, channelsOf, storeAdd, numbersAfter, scalesAfter}
+use Rattle.data_sets.specs.DataSets.{readOf, flatReadBy, storeOf, channelsOf, Adds}
 use Rattle.data_sets.specs.First.{flat-ordinary}
 use Rattle.data_sets.specs.Theorems.{ByConfRev, flat-by-conf-rev, flat-lasting}
 use Rattle.set_store.specs.Histories.{Built, more, later-same}
 use Rattle.read_by_sets.specs.Alike.{never-0}
 use Rattle.hopsickle.specs.Crosses.{Reads, ReadsBy}
 
--- A call of hopsickle_sets_add with up to 24 scale factors is one more addition to a store.
-pub one-more : {xs : List (ℕ × SavDataSetConfig)} {k : List ℕ} {f : List Float} → Built xs k f → (rev : ℕ) (scales : List Float) → length scales ≤ maxChannels → {k′ : List ℕ} {f′ : List Float}
-    → (let x = dataSetOf scales in k′ ≡ numbersAfter (storeAdd k f rev x) k rev x) → (let x = dataSetOf scales in f′ ≡ scalesAfter (storeAdd k f rev x) k f x) → Built (xs ++ ((rev, dataSetOf scales) ∷ [])) k′ f′
+-- A call of hopsickle_sets_add, with any number of scale factors, is one more addition to a store, taken or refused.
+pub one-more : {xs : List (ℕ × SavDataSetConfig)} {k : List ℕ} {f : List Float} → Built xs k f → (rev : ℕ) (scales : List Float) {k′ : List ℕ} {f′ : List Float} {r held : ℕ}
+    → Adds rev (dataSetOf scales) k k′ f f′ r held → Built (xs ++ ((rev, dataSetOf scales) ∷ [])) k′ f′
 unfolding dataSetOf
-one-more b rev scales few e g = more rev (dataSetOf scales) b (length-filledTo noScale maxChannels scales few) e g
+one-more b rev scales a = more rev (dataSetOf scales) b (λ few. length-filledTo noScale maxChannels scales few) (a .numbers) (a .scales)
 
 module _ (a b c e : ℕ) (s : List ℕ) (k k′ o o′ : List ℕ) (cs cs′ : List ℤ) (qs qs′ : List ℕ) (n n′ : ℕ) (fs fs′ : List Float) (r place : ℕ) where
   abbrev answerOf : List ℕ → List Float → Answer (SavDataSetConfig × (Description × ℕ))

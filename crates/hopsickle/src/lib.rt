@@ -13,7 +13,7 @@ ghost use Rattle.definition.specs.Scaling.{valuesAnswer, valuesOf};
 ghost use Rattle.definition.specs.Flat.{headerNumbers, headerOctets, numbersOfHeader, octetsOfHeader, flatDescription, flatHeader, flatRead, flatDecode, flatStrict, flatEncode, flatEncodeValues, flatSize, numberOf, besideIt};
 ghost use Rattle.grant.specs.Grant.{flatGranted};
 ghost use Rattle.fit.specs.Fit.{flatChecked};
-ghost use Rattle.data_sets.specs.DataSets.{flatReadBy, storeOf, channelsOf, storeAdd, numbersAfter, scalesAfter};
+ghost use Rattle.data_sets.specs.DataSets.{flatReadBy, storeOf, channelsOf, Adds};
 ghost use Rattle.rt_services.specs.DataSet.{dataSetOf};
 ghost use Rattle.rt_services.specs.Describe.{headerOf};
 ghost use Rattle.ber_encode.specs.Told.{told};
@@ -230,10 +230,7 @@ pub extern "C" fn hopsickle_sets_add(
     scales: &[f32],
     held: &mut usize,
 ) -> usize
-    ensures { λ r. ⌜ (r ≡ numberOf (storeAdd (now (sets .entry)) (now («set_scales» .entry)) «conf_rev» (dataSetOf (now (scales .entry)))))
-        × (now (held .exit) ≡ besideIt length (storeAdd (now (sets .entry)) (now («set_scales» .entry)) «conf_rev» (dataSetOf (now (scales .entry)))))
-        × (now (sets .exit) ≡ numbersAfter (storeAdd (now (sets .entry)) (now («set_scales» .entry)) «conf_rev» (dataSetOf (now (scales .entry)))) (now (sets .entry)) «conf_rev» (dataSetOf (now (scales .entry))))
-        × (now («set_scales» .exit) ≡ scalesAfter (storeAdd (now (sets .entry)) (now («set_scales» .entry)) «conf_rev» (dataSetOf (now (scales .entry)))) (now (sets .entry)) (now («set_scales» .entry)) (dataSetOf (now (scales .entry)))) ⌝ }
+    ensures { λ r. ⌜ Adds «conf_rev» (dataSetOf (now (scales .entry))) (now (sets .entry)) (now (sets .exit)) (now («set_scales» .entry)) (now («set_scales» .exit)) r (now (held .exit)) ⌝ }
 {
     if SavDataSetConfig::MAX_CHANNELS < scales.len() {
         *held = 0;

@@ -12,7 +12,7 @@ use Rattle.definition.specs.Limits.{maxChannels, maxSets, tooManyChannels, setN
 use Rattle.definition.specs.Answers.{accepted, refusal}
 use Rattle.rt_services.specs.declared.SavDataSetConfig.{SavDataSetConfig}
 use Rattle.data_sets.specs.DataSets.{higher, add, heldIn, storeOf, storeAdd}
-use Rattle.data_sets.specs.Arrays.{store-number}
+use Rattle.data_sets.specs.TwoArrays.{store-number}
 use Rattle.set_store.specs.declared.Addition.the-variants as addition
 use Rattle.set_store.specs.Told.{AddedTo}
 use Rattle.set_store.specs.Held.{aboveAll, higher-is}

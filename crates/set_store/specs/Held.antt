@@ -15,12 +15,6 @@ use Rattle.definition.specs.Frame.{and, all}
 use Rattle.definition.specs.Flat.{nth}
 use Rattle.definition.specs.Scaling.{upTo}
 use Rattle.data_sets.specs.DataSets.{higher, find, heldIn, setAt, setsFrom, storeOf}
-use Rattle.set_store.specs.Told.{emptyStore}
-
--- an empty store holds no set
-pub empty-holds : storeOf (emptyStore .numbers) (emptyStore .scales) ≡ []
-unfolding storeOf emptyStore setsFrom
-empty-holds = refl
 
 -- ---- higher than all held
 

@@ -2,26 +2,40 @@
 -- proved of these is so of them.
 use mathlib.Core.Path.{_≡_, refl, sym, ap, _∙_}
 use mathlib.Core.List.{List, [], _∷_, _++_}
-use Prim.Native.Nat.{ℕ, _+_, _*_}
+use Prim.Native.Nat.{ℕ, _+_, _*_, _≤_}
 use native.Mathlib.Omega.{arith}
-use lib.ListN.{length}
+use lib.ListN.{length, length-replicate}
 use lib.Seq.{sets, length-sets}
 use lib.Ieee.{Float}
 use Rattle.definition.specs.Limits.{maxChannels, noSet}
 use Rattle.definition.specs.Frame.{Description}
 use Rattle.definition.specs.Answers.{Answer, accepted, refusal}
 use Rattle.definition.specs.Flat.{nth}
+use Rattle.rt_services.specs.DataSet.{noScale}
 use Rattle.rt_services.specs.declared.SavDataSetConfig.{SavDataSetConfig}
 use Rattle.data_sets.specs.DataSets.{storeNumbers, storeScales, added, stored, heldIn, setsFrom, storeOf, channelsOf, storeAdd, numbersAfter, scalesAfter}
-use Rattle.data_sets.specs.Arrays.{store-after}
+use Rattle.data_sets.specs.TwoArrays.{store-after}
 use Rattle.data_sets.specs.Store.{Made, made}
 use Rattle.data_sets.specs.Theorems.{Lasting}
+use Rattle.set_store.specs.declared.Addition.{Addition}
+use Rattle.set_store.specs.Told.{emptyStore, AddedTo}
 
--- the two arrays after the additions xs, one after the other, each of the arrays that the one before left
+-- the two arrays after the additions xs, one after the other, each to the arrays that the one before left; a set of up to 24 channels
+-- has 24 scale factors
 pub data Built : List (ℕ × SavDataSetConfig) → List ℕ → List Float → Type 0 where
   empty : {k : List ℕ} {f : List Float} → length k ≡ storeNumbers → length f ≡ storeScales → nth k 0 ≡ 0 → Built [] k f
-  more : {xs : List (ℕ × SavDataSetConfig)} {k : List ℕ} {f : List Float} (rev : ℕ) (x : SavDataSetConfig) {k′ : List ℕ} {f′ : List Float} → Built xs k f → length (x .«scale_factor») ≡ maxChannels
+  more : {xs : List (ℕ × SavDataSetConfig)} {k : List ℕ} {f : List Float} (rev : ℕ) (x : SavDataSetConfig) {k′ : List ℕ} {f′ : List Float} → Built xs k f → (x .channels ≤ maxChannels → length (x .«scale_factor») ≡ maxChannels)
       → k′ ≡ numbersAfter (storeAdd k f rev x) k rev x → f′ ≡ scalesAfter (storeAdd k f rev x) k f x → Built (xs ++ ((rev, x) ∷ [])) k′ f′
+
+-- The store that DataSets::empty hands back has had no additions.
+pub none-added : Built [] (emptyStore .numbers) (emptyStore .scales)
+unfolding emptyStore
+none-added = empty (length-replicate {A = ℕ} storeNumbers 0) (length-replicate storeScales noScale) refl
+
+-- A call of add or add_to is one more addition, taken or refused.
+pub one-added : {xs : List (ℕ × SavDataSetConfig)} {k : List ℕ} {f : List Float} → Built xs k f → {rev : ℕ} {x : SavDataSetConfig} → length (x .«scale_factor») ≡ maxChannels
+    → {r : Addition} {k′ : List ℕ} {f′ : List Float} → AddedTo rev x k f r k′ f′ → Built (xs ++ ((rev, x) ∷ [])) k′ f′
+one-added b {rev} {x} whole a = more rev x b (λ few. whole) (a .numbers) (a .scales)
 
 numbers-long : (r : Answer (List (ℕ × SavDataSetConfig))) (k : List ℕ) (rev : ℕ) (x : SavDataSetConfig) → length (numbersAfter r k rev x) ≡ length k
 numbers-long (accepted l) k rev x = length-sets (sets k 0 ((heldIn k + 1) ∷ [])) (1 + heldIn k * 2) (rev ∷ x .channels ∷ []) ∙ length-sets k 0 ((heldIn k + 1) ∷ [])

@@ -2,20 +2,18 @@
 -- stay where they were, and the added one stands after them.
 use mathlib.Core.Path.{_≡_, refl, sym, ap, _∙_}
 use mathlib.Core.List.{List, [], _∷_, _++_, append-assoc}
-use mathlib.Core.Bool.{Bool, true, false, not}
 use Prim.Native.Nat.{ℕ, zero, suc, _+_, _*_, _≤_, _<_}
 use native.Mathlib.Omega.{arith}
 use lib.ListN.{length, take, drop, getD, length-set, List·getD-append}
 use lib.Seq.{sets, sets-eq, length-take-le, take-all, take-suc, getD-take, getD-append-add, getD-set-same, getD-set-other}
 use lib.Ieee.{Float, nan}
-use lib.Dec.{leb, ltb}
-use borrow.Author.Tests.{leb-false}
-use Rattle.definition.specs.Limits.{maxChannels, maxSets, tooManyChannels, setNotAdded}
-use Rattle.definition.specs.Answers.{Answer, accepted, refuse}
+use Rattle.definition.specs.Limits.{maxChannels, maxSets}
+use Rattle.definition.specs.Answers.{Answer}
 use Rattle.definition.specs.Flat.{nth}
 use Rattle.definition.specs.Scaling.{upTo}
 use Rattle.rt_services.specs.declared.SavDataSetConfig.{SavDataSetConfig}
-use Rattle.data_sets.specs.DataSets.{storeNumbers, storeScales, higher, add, kept, heldIn, setAt, setsFrom, storeOf, storeAdd, numbersAfter, scalesAfter}
+use Rattle.data_sets.specs.DataSets.{storeNumbers, storeScales, kept, heldIn, setAt, setsFrom, storeOf, channelsOf, storeAdd, numbersAfter, scalesAfter}
+use Rattle.data_sets.specs.Store.{Outcome, taken, many, not-added, outcome}
 
 -- ---- elements before those that were put, and these
 
@@ -137,19 +135,14 @@ module _ (k : List ℕ) (f : List Float) (rev : ℕ) (x : SavDataSetConfig) (siz
 
 -- ---- an addition
 
--- what it answers, by its three tests
-abbrev answered : List (ℕ × SavDataSetConfig) → Bool → Bool → Bool → Answer (List (ℕ × SavDataSetConfig))
-answered l t u v = refuse t tooManyChannels (refuse (not u) setNotAdded (refuse v setNotAdded (accepted l)))
-
--- The two arrays after an addition, taken or refused, are the store after it.
-pub store-after : (k : List ℕ) (f : List Float) (rev : ℕ) (x : SavDataSetConfig) → length k ≡ storeNumbers → length f ≡ storeScales → length (x .«scale_factor») ≡ maxChannels
+-- The two arrays after an addition, taken or refused, are the store after it. A set of up to 24 channels has 24 scale factors; one of
+-- more is refused, however many it has.
+pub store-after : (k : List ℕ) (f : List Float) (rev : ℕ) (x : SavDataSetConfig) → length k ≡ storeNumbers → length f ≡ storeScales
+    → (x .channels ≤ maxChannels → length (x .«scale_factor») ≡ maxChannels)
     → storeOf (numbersAfter (storeAdd k f rev x) k rev x) (scalesAfter (storeAdd k f rev x) k f x) ≡ kept (storeOf k f) (storeAdd k f rev x)
-unfolding add
-store-after k f rev x sized scaled whole = go (ltb maxChannels (x .channels)) (higher rev (storeOf k f)) (leb maxSets (length (storeOf k f))) refl
+store-after k f rev x sized scaled whole = go (storeAdd k f rev x) (outcome channelsOf (storeOf k f) rev x)
   where
-    go : (t u v : Bool) → leb maxSets (length (storeOf k f)) ≡ v
-        → (let r = answered (storeOf k f ++ ((rev, x) ∷ [])) t u v in storeOf (numbersAfter r k rev x) (scalesAfter r k f x) ≡ kept (storeOf k f) r)
-    go true u v e = refl
-    go false false v e = refl
-    go false true true e = refl
-    go false true false e = one-more k f rev x sized scaled whole (omega (arith, leb-false maxSets (length (storeOf k f)) e, store-number k f))
+    go : (r : Answer (List (ℕ × SavDataSetConfig))) → Outcome channelsOf (storeOf k f) rev x r → storeOf (numbersAfter r k rev x) (scalesAfter r k f x) ≡ kept (storeOf k f) r
+    go _ (taken few b less) = one-more k f rev x sized scaled (whole few) (omega (arith, less, store-number k f))
+    go _ (many h) = refl
+    go _ (not-added few h) = refl
