@@ -1,10 +1,9 @@
 pub mod Opened
-pub mod Room
 pub mod Numbers
 pub mod Spans
 pub mod Stores
 pub mod Found
 pub mod Gathered
-pub mod Check
+pub mod Judged
 pub mod Told
 pub mod Frame
