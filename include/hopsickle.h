@@ -14,6 +14,22 @@
  * Every function answers 0 where it accepts, else the number of a refusal, and then the only thing
  * it has written is the place, or the size, written or held. hopsickle_is_smv alone answers a bool.
  *
+ * What is proved of the calls together (crates/flat_agreement/specs/Theorems.antt). Two descriptions of
+ * one number of channels are equal when they say the same of all that counts: numbers behind a mark of
+ * 0, Length, spare octets and what lies past noASDU don't.
+ * - write-then-read: what hopsickle_write wrote, hopsickle_read_strict accepts into arrays that are long
+ *   enough, and hands back an equal description, with zeros where nothing counts.
+ * - read-then-write: what hopsickle_read_strict accepts, hopsickle_write writes from the arrays handed
+ *   back as the octets that were read, and leaves the rest of the buffer as it was.
+ * - accepted-exactly: hopsickle_read_strict accepts exactly the octets that hopsickle_write writes of
+ *   some description for which the arrays are long enough; ordinary-same: hopsickle_read then leaves the
+ *   same in all four arrays.
+ * - write-same, same-write: descriptions that are written as the same octets, in whichever forms, are
+ *   equal; and equal ones are written as the same octets in one form. handed-back-same: every
+ *   description that was written as the octets equals what hopsickle_read_strict hands back of them.
+ * - write-sized, size-enough: hopsickle_size answers the size that hopsickle_write writes, and a buffer
+ *   of that size is enough.
+ *
  * An array is lent as a pointer and the number of its elements. The two arrays of a store of data sets
  * (65 and 768 elements) and the 24 scale factors that hopsickle_read_by_sets hands back have fixed
  * lengths, and are lent as a pointer alone. The caller sees to it that

@@ -213,22 +213,37 @@ fn buffers() {
 
 // Which of two refusals comes first: 8, 7 for the arrays, 9, 10, 7 for the frame.
 fn order() {
-    let h = crate::records::header();
     let one = crate::records::pdu(crate::records::asdu(), 1);
-    let nine = crate::records::pdu(crate::records::asdu(), 9);
+    answer(
+        b"25 channels, short arrays: ",
+        crate::records::header(),
+        one,
+        25,
+        &[0],
+        &[0],
+    );
+    nine(b"noASDU 9, short counts: ", &[0; 8], &[0; 9]);
+    nine(b"noASDU 9, short quality words: ", &[0; 9], &[0; 8]);
+    nine(b"noASDU 9: ", &[0; 9], &[0; 9]);
+    order_of_ten();
+}
+
+// Nine ASDUs of one channel.
+fn nine(name: &[u8], counts: &[i32], qualities: &[u32]) {
+    answer(
+        name,
+        crate::records::header(),
+        crate::records::pdu(crate::records::asdu(), 9),
+        1,
+        counts,
+        qualities,
+    );
+}
+
+// 10 and what comes before and after it.
+fn order_of_ten() {
     let mut goose = crate::records::header();
     goose.ether_type = 0x88b8;
-    answer(b"25 channels, short arrays: ", h, one, 25, &[0], &[0]);
-    answer(b"noASDU 9, short counts: ", h, nine, 1, &[0; 8], &[0; 9]);
-    answer(
-        b"noASDU 9, short quality words: ",
-        h,
-        nine,
-        1,
-        &[0; 9],
-        &[0; 8],
-    );
-    answer(b"noASDU 9: ", h, nine, 1, &[0; 9], &[0; 9]);
     answer(
         b"PDU of 1493, EtherType 88B8: ",
         goose,
@@ -240,7 +255,7 @@ fn order() {
     let mut frame = [0xee; 1];
     answer_in(
         b"PDU of 1493, short buffer: ",
-        h,
+        crate::records::header(),
         crate::records::long_pdu(112),
         0,
         &[0],
@@ -264,39 +279,50 @@ fn with_sv_id(len: usize) -> SavPdu {
 
 // Limits of noASDU, svID, datSet and security.
 fn limits() {
-    let h = crate::records::header();
-    let one = crate::records::pdu(crate::records::asdu(), 1);
-    answer_one(
+    of(
         b"noASDU 0: ",
-        h,
         crate::records::pdu(crate::records::asdu(), 0),
     );
-    answer_one(b"svID of 127: ", h, with_sv_id(127));
-    answer_one(b"svID of 128: ", h, with_sv_id(128));
-    answer_one(b"datSet of 0: ", h, with_dat_set(Presence::Present, 0));
-    answer_one(b"datSet of 127: ", h, with_dat_set(Presence::Present, 127));
-    answer_one(b"datSet of 200: ", h, with_dat_set(Presence::Present, 200));
-    answer_one(
+    of(b"svID of 127: ", with_sv_id(127));
+    of(b"svID of 128: ", with_sv_id(128));
+    of(b"datSet of 0: ", with_dat_set(Presence::Present, 0));
+    of(b"datSet of 127: ", with_dat_set(Presence::Present, 127));
+    of(b"datSet of 200: ", with_dat_set(Presence::Present, 200));
+    of(
         b"datSet of 200, absent: ",
-        h,
         with_dat_set(Presence::Absent, 200),
     );
-    answer_one(b"security of 64: ", h, crate::records::secured(one, 64));
-    answer_one(b"security of 65: ", h, crate::records::secured(one, 65));
-    let mut absent = crate::records::pdu(crate::records::asdu(), 1);
+    security_limits();
+}
+
+// With document 01's header.
+fn of(name: &[u8], pdu: SavPdu) {
+    answer_one(name, crate::records::header(), pdu);
+}
+
+fn security_limits() {
+    let one = crate::records::pdu(crate::records::asdu(), 1);
+    of(b"security of 64: ", crate::records::secured(one, 64));
+    of(b"security of 65: ", crate::records::secured(one, 65));
+    let mut absent = one;
     absent.security_len = 65;
-    answer_one(b"security of 65, absent: ", h, absent);
+    of(b"security of 65, absent: ", absent);
 }
 
 // EtherType, TPID and quality words.
 fn words() {
-    let h = crate::records::header();
     let one = crate::records::pdu(crate::records::asdu(), 1);
     let mut goose = crate::records::header();
     goose.ether_type = 0x88b8;
     answer_one(b"EtherType 88B8: ", goose, one);
     answer_one(b"TPID 8100: ", crate::records::tagged(0x8100, 0x6005), one);
     answer_one(b"TPID 88A8: ", crate::records::tagged(0x88a8, 0x6005), one);
+    quality_words();
+}
+
+fn quality_words() {
+    let h = crate::records::header();
+    let one = crate::records::pdu(crate::records::asdu(), 1);
     answer(b"quality word 8191: ", h, one, 1, &[1000], &[8191]);
     answer(b"quality word 8192: ", h, one, 1, &[1000], &[8192]);
     answer(
@@ -321,29 +347,47 @@ fn size(name: &[u8], header: EthernetHeader, pdu: SavPdu, channels: usize) {
 
 // Sizes of the same descriptions.
 fn sizes() {
-    let h = crate::records::header();
-    let one = crate::records::pdu(crate::records::asdu(), 1);
-    size(b"size: ", h, one, 1);
-    size(b"size, 24 channels: ", h, one, 24);
-    size(b"size, 25 channels: ", h, one, 25);
+    one_size(b"size: ", 1);
+    one_size(b"size, 24 channels: ", 24);
+    one_size(b"size, 25 channels: ", 25);
     size(
         b"size, noASDU 9: ",
-        h,
+        crate::records::header(),
         crate::records::pdu(crate::records::asdu(), 9),
         1,
     );
-    size(b"size, PDU of 1492: ", h, crate::records::long_pdu(111), 0);
-    size(b"size, PDU of 1493: ", h, crate::records::long_pdu(112), 0);
+    long_size(b"size, PDU of 1492: ", 111);
+    long_size(b"size, PDU of 1493: ", 112);
+    tagged_size(b"size, TPID 8100: ", 0x8100);
+    tagged_size(b"size, TPID 88A8: ", 0x88a8);
+}
+
+// Of document 01's description with so many channels.
+fn one_size(name: &[u8], channels: usize) {
     size(
-        b"size, TPID 8100: ",
-        crate::records::tagged(0x8100, 0x6005),
-        one,
-        1,
+        name,
+        crate::records::header(),
+        crate::records::pdu(crate::records::asdu(), 1),
+        channels,
     );
+}
+
+// Of six ASDUs, the last with a datSet of this length.
+fn long_size(name: &[u8], len: usize) {
     size(
-        b"size, TPID 88A8: ",
-        crate::records::tagged(0x88a8, 0x6005),
-        one,
+        name,
+        crate::records::header(),
+        crate::records::long_pdu(len),
+        0,
+    );
+}
+
+// Of document 01's description with a VLAN of this TPID.
+fn tagged_size(name: &[u8], tpid: u16) {
+    size(
+        name,
+        crate::records::tagged(tpid, 0x6005),
+        crate::records::pdu(crate::records::asdu(), 1),
         1,
     );
 }

@@ -19,9 +19,7 @@ const SECOND_LENGTH: usize = 126;
 fn reading(name: &[u8], s: &[u8], channels: usize, counts: &mut [i32], qualities: &mut [u32]) {
     title(b"checked ", name);
     describe::number(b"channels", channels);
-    describe::number(b"counts", counts.len());
-    describe::number(b"qualities", qualities.len());
-    describe::octets(b"octets", s, s.len());
+    given(s, counts.len(), qualities.len());
     let ordinary = decode_smv::read_frame(s, channels, counts, qualities);
     answered(b"ordinary", ordinary.number, ordinary.place);
     let got = checked::read_checked(s, channels, counts, qualities);
@@ -29,6 +27,13 @@ fn reading(name: &[u8], s: &[u8], channels: usize, counts: &mut [i32], qualities
     if got.number == 0 {
         found(got, channels, counts, qualities);
     }
+}
+
+// The lines of what a reading is given: how long the arrays are, and the octets.
+pub fn given(s: &[u8], counts: usize, qualities: usize) {
+    describe::number(b"counts", counts);
+    describe::number(b"qualities", qualities);
+    describe::octets(b"octets", s, s.len());
 }
 
 // With arrays that are long enough for any frame.

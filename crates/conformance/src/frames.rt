@@ -64,36 +64,57 @@ fn empty_dat_set() -> SavAsdu {
 
 // Document 01's frame; VLAN, simulation mark, security, and each optional field by itself.
 pub fn print() {
-    let h = crate::records::header();
+    print_plain();
+    print_security();
+    print_optional();
+    print_numbered();
+    of(b"with empty svID", crate::records::texts(0, 0));
+}
+
+// Document 01's frame with another ASDU.
+fn of(name: &[u8], a: SavAsdu) {
+    one(name, crate::records::header(), crate::records::pdu(a, 1));
+}
+
+fn print_plain() {
+    of(b"of document 01", crate::records::asdu());
     let p = crate::records::pdu(crate::records::asdu(), 1);
-    one(b"of document 01", h, p);
     one(b"with VLAN", crate::records::tagged(0x8100, 0x6005), p);
-    let mut simulated = crate::records::pdu(crate::records::asdu(), 1);
+    let mut simulated = p;
     simulated.sim = true;
-    one(b"with simulation mark", h, simulated);
-    one(b"with security", h, crate::records::secured(p, 16));
-    one(b"with empty security", h, crate::records::secured(p, 0));
+    one(b"with simulation mark", crate::records::header(), simulated);
+}
+
+// Document 01's frame with security of this length.
+fn secured(name: &[u8], len: usize) {
+    let p = crate::records::pdu(crate::records::asdu(), 1);
     one(
+        name,
+        crate::records::header(),
+        crate::records::secured(p, len),
+    );
+}
+
+fn print_security() {
+    secured(b"with security", 16);
+    secured(b"with empty security", 0);
+}
+
+fn print_optional() {
+    of(
         b"with datSet",
-        h,
-        crate::records::pdu(crate::records::with_dat_set(Presence::Present), 1),
+        crate::records::with_dat_set(Presence::Present),
     );
-    one(
-        b"with empty datSet",
-        h,
-        crate::records::pdu(empty_dat_set(), 1),
-    );
-    one(b"with refrTm", h, crate::records::pdu(refr_tm(), 1));
+    of(b"with empty datSet", empty_dat_set());
+    of(b"with refrTm", refr_tm());
+}
+
+fn print_numbered() {
     let rate = rates(OptionalU16::Present(4000), OptionalU16::Absent);
-    one(b"with smpRate", h, crate::records::pdu(rate, 1));
+    of(b"with smpRate", rate);
     let modulus = rates(OptionalU16::Absent, OptionalU16::Present(1));
-    one(b"with smpMod", h, crate::records::pdu(modulus, 1));
-    one(b"with gmIdentity", h, crate::records::pdu(gm_identity(), 1));
-    one(
-        b"with empty svID",
-        h,
-        crate::records::pdu(crate::records::texts(0, 0), 1),
-    );
+    of(b"with smpMod", modulus);
+    of(b"with gmIdentity", gm_identity());
 }
 
 // smpCnt, smpRate and smpMod at one number, confRev and smpSynch at others.
@@ -122,37 +143,28 @@ pub fn print_numbers() {
 
 // Lengths at the boundaries of their forms, and the longest texts, security and PDU.
 pub fn print_lengths() {
-    bare(b"ASDU of 127 octets", crate::records::texts(114, 0));
-    bare(b"ASDU of 128 octets", crate::records::texts(115, 0));
-    bare(b"ASDU of 255 octets", crate::records::texts(127, 113));
-    bare(b"ASDU of 256 octets", crate::records::texts(127, 114));
-    bare(
-        b"svID and datSet of 127 octets",
-        crate::records::texts(127, 127),
-    );
-    let h = crate::records::header();
-    let p = crate::records::pdu(crate::records::asdu(), 1);
-    one(b"security of 64 octets", h, crate::records::secured(p, 64));
+    texts(b"ASDU of 127 octets", 114, 0);
+    texts(b"ASDU of 128 octets", 115, 0);
+    texts(b"ASDU of 255 octets", 127, 113);
+    texts(b"ASDU of 256 octets", 127, 114);
+    texts(b"svID and datSet of 127 octets", 127, 127);
+    secured(b"security of 64 octets", 64);
+    long(b"PDU of 1492 octets", 111);
+    long(b"PDU of 1492 octets in the fixed form", 87);
+    long(b"PDU of 1493 octets in the fixed form", 88);
+}
+
+// Document 01's frame with texts of these lengths, without channels.
+fn texts(name: &[u8], sv_id: usize, dat_set: usize) {
+    bare(name, crate::records::texts(sv_id, dat_set));
+}
+
+// Six ASDUs, the last with a datSet of this length.
+fn long(name: &[u8], len: usize) {
     frame(
-        b"PDU of 1492 octets",
-        h,
-        crate::records::long_pdu(111),
-        0,
-        &[0],
-        &[0],
-    );
-    frame(
-        b"PDU of 1492 octets in the fixed form",
-        h,
-        crate::records::long_pdu(87),
-        0,
-        &[0],
-        &[0],
-    );
-    frame(
-        b"PDU of 1493 octets in the fixed form",
-        h,
-        crate::records::long_pdu(88),
+        name,
+        crate::records::header(),
+        crate::records::long_pdu(len),
         0,
         &[0],
         &[0],
@@ -170,12 +182,27 @@ fn filled(name: &[u8], header: EthernetHeader, pdu: SavPdu, channels: usize) {
 
 // Numbers of channels and of ASDUs; counts and quality words at their limits.
 pub fn print_sizes() {
-    let h = crate::records::header();
+    channels(b"of no channel", 0);
+    channels(b"of 15 channels", 15);
+    channels(b"of 16 channels", 16);
+    channels(b"of 24 channels", 24);
+    print_asdus();
+    filled(
+        b"eight ASDUs of eight channels",
+        crate::records::tagged(0x8100, 0x6005),
+        crate::records::numbered(8),
+        8,
+    );
+}
+
+// Document 01's frame with so many channels.
+fn channels(name: &[u8], channels: usize) {
     let p = crate::records::pdu(crate::records::asdu(), 1);
-    filled(b"of no channel", h, p, 0);
-    filled(b"of 15 channels", h, p, 15);
-    filled(b"of 16 channels", h, p, 16);
-    filled(b"of 24 channels", h, p, 24);
+    filled(name, crate::records::header(), p, channels);
+}
+
+fn print_asdus() {
+    let h = crate::records::header();
     let counts = [-2147483648, -1, 0, 2147483647];
     frame(
         b"two ASDUs of two channels",
@@ -190,11 +217,5 @@ pub fn print_sizes() {
         h,
         crate::records::numbered(8),
         0,
-    );
-    filled(
-        b"eight ASDUs of eight channels",
-        crate::records::tagged(0x8100, 0x6005),
-        crate::records::numbered(8),
-        8,
     );
 }

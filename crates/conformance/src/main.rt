@@ -48,6 +48,16 @@ fn print_format() {
     say(b"#   octets HEX         the frame in the shortest form, from first octet to last, or\n");
     say(b"#   refused N          the refusal's number, its place being 0\n");
     say(b"#   fixed octets HEX, or fixed refused N, the same in the fixed form\n");
+    print_read();
+    print_granted();
+    print_checked();
+    print_added();
+    print_by_sets();
+    say(b"#\n");
+}
+
+// The first lines: the block of a reading.
+fn print_read() {
     say(b"# read NAME          what reading octets answers; arrays are long enough\n");
     say(b"#   channels N         the number of channels that is asked for\n");
     say(b"#   octets HEX         the input\n");
@@ -58,11 +68,6 @@ fn print_format() {
     );
     say(b"#   length N           Length as it was read\n");
     say(b"#   the lines of the description that was read\n");
-    print_granted();
-    print_checked();
-    print_added();
-    print_by_sets();
-    say(b"#\n");
 }
 
 // The first lines: the block of a granted reading.

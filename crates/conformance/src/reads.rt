@@ -104,7 +104,7 @@ fn lengths() {
     replaced(b"length after 83", 44, 45, b"\x83\x00\x00\x08");
 }
 
-// Integers too long, sign-extended, not shortest, and of length 0.
+// Integers of more octets than their field.
 fn integers() {
     replaced(b"smpCnt 00 7F FF", 35, 37, b"\x03\x00\x7f\xff");
     replaced(b"smpCnt 00 80 00", 35, 37, b"\x03\x00\x80\x00");
@@ -116,6 +116,11 @@ fn integers() {
         b"\x06\x00\x00\x80\x00\x00\x00",
     );
     replaced(b"smpSynch 00 7F", 41, 43, b"\x02\x00\x7f");
+    short_integers();
+}
+
+// Sign-extended, not shortest, and of length 0.
+fn short_integers() {
     replaced(b"smpCnt 80", 35, 37, b"\x01\x80");
     replaced(b"smpCnt 00 05", 35, 37, b"\x02\x00\x05");
     replaced(b"smpCnt of length 0", 35, 37, b"\x00");

@@ -108,9 +108,7 @@ fn addition(name: &[u8], store: DataSets, conf_rev: u32, channels: usize) {
 fn reading(name: &[u8], s: &[u8], store: DataSets, counts: &mut [i32], qualities: &mut [u32]) {
     title(b"by sets ", name);
     held(store);
-    describe::number(b"counts", counts.len());
-    describe::number(b"qualities", qualities.len());
-    describe::octets(b"octets", s, s.len());
+    crate::checks::given(s, counts.len(), qualities.len());
     let got = read_by_sets::read_by_sets(s, store, counts, qualities);
     let read = got.read;
     let set = got.set;

@@ -1,6 +1,5 @@
 pub mod Told
 pub mod Steps
-pub mod Over
 pub mod Samples
 pub mod Asdus
 pub mod Pdu

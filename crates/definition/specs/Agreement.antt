@@ -1,19 +1,19 @@
 -- The theorems of demand 3, over the definitions of Frame, Read and Answers: written octets are read back, what strict reading
 -- accepts is written again, and one frame means one thing.
 use mathlib.Core.Path.{_≡_, refl, sym, ap, _∙_}
-use mathlib.Core.List.{List, [], _∷_, _++_}
+use mathlib.Core.List.{List, [], _∷_}
 use mathlib.Core.Option.{Option, some, none}
 use mathlib.Core.Bool.{Bool, true, false, cond}
-use Prim.Native.Nat.{ℕ, zero, suc, _+_, _*_, _≤_, _<_}
+use Prim.Native.Nat.{ℕ, suc, _*_, _≤_}
 use native.Mathlib.Omega.{arith}
 use lib.ListN.{length}
-use lib.Dec.{leb, ltb, eqb}
+use lib.Dec.{ltb, eqb}
 use borrow.Author.Tests.{le-ltb, ltb-false, eq-eqb, eqb-true}
 use Rattle.definition.specs.Frame.{Description, Form, frameOctets, lengthOf, writable, Octets, Accepted}
 use Rattle.definition.specs.Limits.{notAsWritten, noRoom}
 use Rattle.definition.specs.Answers.{Answer, accepted, refusal, refuse, readAs, readFrame, heldBy, ordinaryRead, differ, unlessAt, again, strictRead}
 use Rattle.definition.specs.Trip.{written-then-read}
-use Rattle.definition.specs.Sound.{ReadTyped, read-typed}
+use Rattle.definition.specs.Sound.{read-typed}
 
 -- ---- the comparison
 
@@ -37,6 +37,11 @@ differ-same at (x ∷ l) (y ∷ m) e = go (eqb x y) refl e (differ-same (suc at)
     go false f g h = none-some at g
 
 -- ---- what strict reading's answer says
+
+-- a call that is accepted passed its test
+pub passed : {A : Type 0} (t : Bool) (k : ℕ) (rest : Answer A) {x : A} → refuse t k rest ≡ accepted x → (t ≡ false) × (rest ≡ accepted x)
+passed true k rest e = let z : _≡_ {A = ℕ} 0 1 = cc in absurd (omega arith)
+passed false k rest e = (refl, e)
 
 pub same-read : (d d′ : Description) (l l′ : ℕ) → readAs d l ≡ readAs d′ l′ → (d ≡ d′) × (l ≡ l′)
 same-read d d′ l l′ e =

@@ -4,13 +4,16 @@ pub mod Frame
 pub mod Read
 pub mod Answers
 pub mod Samples
+pub mod Over
 pub mod Flat
+pub mod Calls
 pub mod FlatBack
 pub mod Back
 pub mod Trip
 pub mod Sound
 pub mod Agreement
 pub mod Placed
+pub mod Sizes
 pub mod Scaling
 pub mod Held
 pub mod Svread

@@ -13,7 +13,7 @@ use Rattle.definition.specs.Numbers.{strict-answered}
 use Rattle.fit.specs.Fit.{flatChecked}
 use Rattle.fit.specs.Theorems.{flat-checks, flat-strict-passes}
 use Rattle.fit.specs.Calls as calls
-use Rattle.hopsickle.specs.Crosses.{Reads}
+use Rattle.definition.specs.Calls.{Reads}
 
 -- the frame s, n channels, the arrays that are lent, and those that are left; the answer and the place
 module _ (n : ℕ) (s k k′ o o′ : List ℕ) (cs cs′ : List ℤ) (qs qs′ : List ℕ) (r place : ℕ) where

@@ -15,8 +15,9 @@ use Rattle.definition.specs.Frame.{Description}
 use Rattle.definition.specs.Read.{Out, got, refused, Header, headerAt}
 use Rattle.definition.specs.Held.{filledTo}
 use Rattle.definition.specs.Scaling.{upTo, valuesOf, valuesAnswer}
-use Rattle.definition.specs.Answers.{Answer, accepted, refusal, over, leaves, allCounts, allQualities}
-use Rattle.definition.specs.Flat.{headerNumbers, headerOctets, numbersOf, octetsOf, numbersOfHeader, octetsOfHeader, flatHeader, left, numberOf, besideIt}
+use Rattle.definition.specs.Answers.{Answer, accepted, refusal, over, leaves}
+use Rattle.definition.specs.Flat.{headerNumbers, headerOctets, numbersOfHeader, octetsOfHeader, flatHeader, numberOf, besideIt}
+use Rattle.definition.specs.Calls.{Reads, ReadsHeader, Writes}
 use Rattle.flat_decode.specs.declared.FlatRead.{FlatRead}
 use Rattle.flat_decode.specs.declared.FlatRead.the-variants as flat
 use Rattle.flat_decode.specs.Told.{toldFlat, Left}
@@ -48,33 +49,11 @@ abbrev pub flatPlace : FlatRead → ℕ
 flatPlace (flat.Refused r) = r .place
 flatPlace flat.Read = 0
 
--- a reading: the arrays k, o, cs and qs become k′, o′, cs′ and qs′
-pub record Reads (x : Answer (Description × ℕ)) (k k′ o o′ : List ℕ) (cs cs′ : List ℤ) (qs qs′ : List ℕ) (r beside : ℕ) : Type 0 where
-  pub number : r ≡ numberOf x
-  pub place : beside ≡ besideIt (λ y. 0) x
-  pub numbers : k′ ≡ left numbersOf x k
-  pub octets : o′ ≡ left octetsOf x o
-  pub counts : cs′ ≡ left (λ y. allCounts (y .0 .asdus)) x cs
-  pub qualities : qs′ ≡ left (λ y. allQualities (y .0 .asdus)) x qs
-
 -- a reading by confRev: the set's channels and scale factors besides
 pub record ReadsBy (x : Answer (SavDataSetConfig × (Description × ℕ))) (k k′ o o′ : List ℕ) (cs cs′ : List ℤ) (qs qs′ : List ℕ) (n n′ : ℕ) (fs fs′ : List Float) (r beside : ℕ) : Type 0 where
   pub read : Reads (readOf x) k k′ o o′ cs cs′ qs qs′ r beside
   pub channels : n′ ≡ channelsHanded x n
   pub scales : fs′ ≡ scalesHanded x fs
-
--- a header's reading; beside the number stands the place after the header
-pub record ReadsHeader (x : Answer (Header × ℕ)) (k k′ o o′ : List ℕ) (r beside : ℕ) : Type 0 where
-  pub number : r ≡ numberOf x
-  pub place : beside ≡ besideIt (λ y. y .1) x
-  pub numbers : k′ ≡ left (λ y. numbersOfHeader (y .0)) x k
-  pub octets : o′ ≡ left (λ y. octetsOfHeader (y .0)) x o
-
--- an answer that is a size, and beside it what is written at the start of a lent array
-pub record Writes {A : Type 0} (x : Answer ℕ) (written old new : List A) (r beside : ℕ) : Type 0 where
-  pub number : r ≡ numberOf x
-  pub size : beside ≡ besideIt (λ n. n) x
-  pub array : new ≡ leaves x old 0 written
 
 -- ---- from the answers of the functions that are called
 

@@ -11,7 +11,7 @@ use Rattle.definition.specs.Answers.{Answer, allCounts, allQualities}
 use Rattle.definition.specs.Flat.{numbersOf, octetsOf, left, numberOf, besideIt}
 use Rattle.grant.specs.Grant.{flatGranted, hidden}
 use Rattle.grant.specs.Hidden.{flat-same}
-use Rattle.hopsickle.specs.Crosses.{Reads}
+use Rattle.definition.specs.Calls.{Reads}
 
 -- what the call answers for the frame s, the arrays k, o, cs and qs being lent
 abbrev Answers : ℕ → ℕ → List ℕ → List ℕ → List ℕ → List ℤ → List ℕ → Answer (Description × ℕ)

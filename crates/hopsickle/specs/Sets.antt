@@ -17,7 +17,8 @@ use Rattle.data_sets.specs.First.{flat-ordinary}
 use Rattle.data_sets.specs.Theorems.{ByConfRev, flat-by-conf-rev, flat-lasting}
 use Rattle.set_store.specs.Histories.{Built, more, later-same}
 use Rattle.read_by_sets.specs.Alike.{never-0}
-use Rattle.hopsickle.specs.Crosses.{Reads, ReadsBy}
+use Rattle.definition.specs.Calls.{Reads}
+use Rattle.hopsickle.specs.Crosses.{ReadsBy}
 
 -- A call of hopsickle_sets_add, with any number of scale factors, is one more addition to a store, taken or refused.
 pub one-more : {xs : List (ℕ × SavDataSetConfig)} {k : List ℕ} {f : List Float} → Built xs k f → (rev : ℕ) (scales : List Float) {k′ : List ℕ} {f′ : List Float} {r held : ℕ}

@@ -99,6 +99,18 @@ fn say(text: &[u8]) {
 }
 
 pub fn print_name(class: usize) {
+    if class < 9 {
+        print_first(class);
+    } else if class < 17 {
+        print_limit(class);
+    } else if class < 25 {
+        print_described(class);
+    } else {
+        print_form(class);
+    }
+}
+
+fn print_first(class: usize) {
     match class {
         0 => say(b"unexplained"),
         1 => say(b"answered alike"),
@@ -109,6 +121,12 @@ pub fn print_name(class: usize) {
         6 => say(b"the Rust panics: refused 7 at 0"),
         7 => say(b"refused alike, at 0"),
         8 => say(b"refused alike, the buffer as lent"),
+        _ => say(b"no class"),
+    }
+}
+
+fn print_limit(class: usize) {
+    match class {
         9 => say(b"answered alike, text that isn't UTF-8"),
         10 => say(b"more than 24 channels: refused 8"),
         11 => say(b"above a limit: refused 4, the Rust answers"),
@@ -117,6 +135,12 @@ pub fn print_name(class: usize) {
         14 => say(b"the Rust panics, header: refused 1 at the buffer length"),
         15 => say(b"the Rust panics, refrTm: refused 1 at its first content octet"),
         16 => say(b"the Rust panics, gmIdentity: refused 5"),
+        _ => say(b"no class"),
+    }
+}
+
+fn print_described(class: usize) {
+    match class {
         17 => say(b"half a VLAN tag: can't be described"),
         18 => say(b"noASDU other than the number of ASDUs: can't be described"),
         19 => say(b"numbers of samples that differ: can't be described"),
@@ -125,6 +149,12 @@ pub fn print_name(class: usize) {
         22 => say(b"outside the limits: refused 9, the Rust panics"),
         23 => say(b"PDU above 1,492 octets: refused 10"),
         24 => say(b"answered alike, quality bits 13 to 31 cleared: refused 9 with them"),
+        _ => say(b"no class"),
+    }
+}
+
+fn print_form(class: usize) {
+    match class {
         25 => say(b"answered alike, scale factors that differ: by the writer of counts"),
         26 => say(b"the Rust panics, index plus length of 2^64 or more: refused 1 at the index"),
         27 => say(b"answered alike, strict reading accepts it in the shortest form"),

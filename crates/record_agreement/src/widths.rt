@@ -1,0 +1,14 @@
+// What the type i32 says of the elements of an array, which a proof has of an element that is read.
+ghost use Rattle.definition.specs.Frame.{Count, All};
+
+// Each is a number of 32 bits. Answers how many there are.
+pub fn counts(l: &[i32]) -> usize
+    ensures { λ _. ⌜ All Count (now (l .entry)) ⌝ }
+{
+    let mut i = 0;
+    while i < l.len() {
+        let _z = l[i];
+        i += 1;
+    }
+    i
+}
