@@ -31,8 +31,9 @@
  *   of that size is enough.
  *
  * An array is lent as a pointer and the number of its elements. The two arrays of a store of data sets
- * (65 and 768 elements) and the 24 scale factors that hopsickle_read_by_sets hands back have fixed
- * lengths, and are lent as a pointer alone. The caller sees to it that
+ * (HOPSICKLE_SET_NUMBERS and HOPSICKLE_SET_SCALES elements) and the scale factors that
+ * hopsickle_read_by_sets hands back (HOPSICKLE_MAX_CHANNELS) have fixed lengths, and are lent as a
+ * pointer alone. The caller sees to it that
  * - each pointer points to as many elements as it says or as are fixed, also where that is 0, and is
  *   never null;
  * - what a function writes (arrays, place, size, written, held, channels) overlaps nothing else that is
@@ -55,15 +56,17 @@ extern "C" {
 
 #define HOPSICKLE_MAX_ASDUS 8
 #define HOPSICKLE_MAX_CHANNELS 24
-#define HOPSICKLE_MAX_SAMPLES 192 /* of all ASDUs */
-#define HOPSICKLE_MAX_TEXT 127    /* octets of svID, and of datSet */
-#define HOPSICKLE_MAX_SECURITY 64 /* octets */
-#define HOPSICKLE_MAX_PDU 1492    /* octets of a written PDU, from its tag to its end */
-#define HOPSICKLE_MAX_FRAME 1518  /* octets of a written frame */
-#define HOPSICKLE_QUALITY_LIMIT 8192 /* a quality word is below this */
-#define HOPSICKLE_MAX_SETS 32     /* data sets of a store */
-#define HOPSICKLE_SET_NUMBERS 65  /* elements of a store's numbers */
-#define HOPSICKLE_SET_SCALES 768  /* elements of a store's scale factors */
+#define HOPSICKLE_MAX_TEXT 127       /* octets of svID, and of datSet */
+#define HOPSICKLE_MAX_SECURITY 64    /* octets */
+#define HOPSICKLE_MAX_PDU 1492       /* octets of a written PDU, from its tag to its end */
+#define HOPSICKLE_QUALITY_LIMIT 8192 /* a quality word is below this, which is a power of 2 */
+#define HOPSICKLE_MAX_SETS 32        /* data sets of a store */
+
+/* What follows from them. */
+#define HOPSICKLE_MAX_SAMPLES (HOPSICKLE_MAX_ASDUS * HOPSICKLE_MAX_CHANNELS) /* of all ASDUs */
+#define HOPSICKLE_MAX_FRAME (26 + HOPSICKLE_MAX_PDU)       /* octets of a written frame, with a VLAN tag */
+#define HOPSICKLE_SET_NUMBERS (1 + 2 * HOPSICKLE_MAX_SETS) /* elements of a store's numbers */
+#define HOPSICKLE_SET_SCALES (HOPSICKLE_MAX_SETS * HOPSICKLE_MAX_CHANNELS) /* and of its scale factors */
 
 /* ---- refusals */
 
@@ -73,8 +76,8 @@ extern "C" {
 #define HOPSICKLE_ENDS_TOO_SOON 1        /* octets end too soon; where they are missing */
 #define HOPSICKLE_BAD_LENGTH 2           /* a length octet 80, or 84 to FF; its tag */
 #define HOPSICKLE_INTEGER_TOO_LONG 3     /* an integer too long; its first content octet */
-#define HOPSICKLE_TOO_LONG_TO_HOLD 4     /* noASDU above 8, or svID, datSet or security too long to hold;
-                                            its first content octet */
+#define HOPSICKLE_TOO_LONG_TO_HOLD 4     /* noASDU above HOPSICKLE_MAX_ASDUS, or svID, datSet or security
+                                            too long to hold; its first content octet */
 #define HOPSICKLE_GM_IDENTITY_TOO_LONG 5 /* gmIdentity above 8 octets; its first content octet */
 #define HOPSICKLE_NOT_AS_WRITTEN 6       /* strict reading only: not what the writer writes in this form;
                                             the first octet that differs, or the shorter length, or 0
@@ -82,13 +85,14 @@ extern "C" {
 
 /* By the calling program, place 0. */
 #define HOPSICKLE_NO_ROOM 7           /* a lent buffer or array too short */
-#define HOPSICKLE_TOO_MANY_CHANNELS 8 /* more than 24 channels */
+#define HOPSICKLE_TOO_MANY_CHANNELS 8 /* more than HOPSICKLE_MAX_CHANNELS */
 
 /* By whoever describes a frame, place 0. */
-#define HOPSICKLE_BAD_DESCRIPTION 9   /* noASDU not 1 to 8, svID, datSet or security too long, EtherType not
-                                         88 BA, TPID not 81 00, a quality word of 2^13 or more, a mark that
-                                         is neither 0 nor 1, or a number beyond its field's width */
-#define HOPSICKLE_TOO_LONG_TO_WRITE 10  /* a PDU above 1,492 octets */
+#define HOPSICKLE_BAD_DESCRIPTION 9   /* noASDU not 1 to HOPSICKLE_MAX_ASDUS, svID, datSet or security too
+                                         long, EtherType not 88 BA, TPID not 81 00, a quality word of
+                                         HOPSICKLE_QUALITY_LIMIT or more, a mark that is neither 0 nor 1,
+                                         or a number beyond its field's width */
+#define HOPSICKLE_TOO_LONG_TO_WRITE 10  /* a PDU above HOPSICKLE_MAX_PDU octets */
 #define HOPSICKLE_VALUE_OUT_OF_RANGE 11 /* a scaled value below -2^31 or above 2^31 */
 
 /* By a frame and a number of channels that don't match. The place is an octet's index from the first
@@ -98,7 +102,8 @@ extern "C" {
                                        earliest such ASDU */
 
 /* By whoever adds data sets to a store, place 0. */
-#define HOPSICKLE_SET_NOT_ADDED 14 /* a confRev that isn't higher than all held, or a thirty-third set */
+#define HOPSICKLE_SET_NOT_ADDED 14 /* a confRev that isn't higher than all held, or HOPSICKLE_MAX_SETS are
+                                      held */
 
 /* By a frame and data sets that don't match, place 0. */
 #define HOPSICKLE_NO_SET 15         /* reading by sets only: no set for the first ASDU's confRev, or no ASDU */
@@ -140,16 +145,16 @@ extern "C" {
 
 #define HOPSICKLE_DST_ADDR 0 /* 6 octets */
 #define HOPSICKLE_SRC_ADDR 6 /* 6 octets */
-#define HOPSICKLE_SECURITY_OCTETS 12 /* 64 octets */
-#define HOPSICKLE_HEAD_OCTETS 76
-#define HOPSICKLE_HEADER_OCTETS 12 /* of them those of the header */
+#define HOPSICKLE_SECURITY_OCTETS (HOPSICKLE_SRC_ADDR + 6) /* HOPSICKLE_MAX_SECURITY octets */
+#define HOPSICKLE_HEAD_OCTETS (HOPSICKLE_SECURITY_OCTETS + HOPSICKLE_MAX_SECURITY)
+#define HOPSICKLE_HEADER_OCTETS HOPSICKLE_SECURITY_OCTETS /* of them those of the header */
 
 /* The octets of an ASDU, from its first: see HOPSICKLE_OCTET. */
-#define HOPSICKLE_SV_ID_OCTETS 0        /* 127 octets */
-#define HOPSICKLE_DAT_SET_OCTETS 127    /* 127 octets */
-#define HOPSICKLE_REFR_TM_OCTETS 254    /* 8 octets */
-#define HOPSICKLE_GM_IDENTITY_OCTETS 262 /* 8 octets */
-#define HOPSICKLE_ASDU_OCTETS 270
+#define HOPSICKLE_SV_ID_OCTETS 0 /* HOPSICKLE_MAX_TEXT octets */
+#define HOPSICKLE_DAT_SET_OCTETS (HOPSICKLE_SV_ID_OCTETS + HOPSICKLE_MAX_TEXT)   /* as many */
+#define HOPSICKLE_REFR_TM_OCTETS (HOPSICKLE_DAT_SET_OCTETS + HOPSICKLE_MAX_TEXT) /* 8 octets */
+#define HOPSICKLE_GM_IDENTITY_OCTETS (HOPSICKLE_REFR_TM_OCTETS + 8)              /* 8 octets */
+#define HOPSICKLE_ASDU_OCTETS (HOPSICKLE_GM_IDENTITY_OCTETS + 8)
 
 /* The place of a number, and of an octet, of ASDU i (from 0). */
 #define HOPSICKLE_NUMBER(i, place) (HOPSICKLE_HEAD_NUMBERS + (size_t)(i) * HOPSICKLE_ASDU_NUMBERS + (place))
@@ -157,12 +162,13 @@ extern "C" {
 
 /* Elements that are enough for every frame: of the numbers, and of the octets. Counts and quality
  * words are enough with HOPSICKLE_MAX_SAMPLES. */
-#define HOPSICKLE_MAX_NUMBERS 106
-#define HOPSICKLE_MAX_OCTETS 2236
+#define HOPSICKLE_MAX_NUMBERS (HOPSICKLE_HEAD_NUMBERS + HOPSICKLE_MAX_ASDUS * HOPSICKLE_ASDU_NUMBERS)
+#define HOPSICKLE_MAX_OCTETS (HOPSICKLE_HEAD_OCTETS + HOPSICKLE_MAX_ASDUS * HOPSICKLE_ASDU_OCTETS)
 
 /* ---- places in a store of data sets: how many it holds, then confRev and channels of each, the
- * earliest addition first, in the numbers; 24 scale factors of each, zero past its channels, in the
- * scale factors. A store whose first number is 0 is empty, whatever else is in the arrays. */
+ * earliest addition first, in the numbers; HOPSICKLE_MAX_CHANNELS scale factors of each, zero past its
+ * channels, in the scale factors. A store whose first number is 0 is empty, whatever else is in the
+ * arrays. */
 
 #define HOPSICKLE_SETS_HELD 0
 /* Of set i (from 0): confRev and channels, and the scale factor of channel j. */
@@ -176,10 +182,10 @@ extern "C" {
 bool hopsickle_is_smv(const uint8_t *frame, size_t frame_len);
 
 /*
- * Reads the header of a frame: writes the numbers TAGGED to LENGTH (the first 6) and the two
- * addresses (the first 12 octets). *place is the position after the header, 22, or 26 where there is
- * a VLAN tag, which can lie past the end of the frame; where refused, the refusal's place.
- * Refused: 1; then 7 where there is no room for 6 numbers and 12 octets.
+ * Reads the header of a frame: writes the numbers TAGGED to LENGTH (HOPSICKLE_HEADER_NUMBERS) and the
+ * two addresses (HOPSICKLE_HEADER_OCTETS). *place is the position after the header, 22, or 26 where
+ * there is a VLAN tag, which can lie past the end of the frame; where refused, the refusal's place.
+ * Refused: 1; then 7 where there is no room for so many numbers and octets.
  */
 size_t hopsickle_header(const uint8_t *frame, size_t frame_len,
                         uint32_t *numbers, size_t numbers_len,
@@ -188,9 +194,10 @@ size_t hopsickle_header(const uint8_t *frame, size_t frame_len,
 
 /*
  * Reads a frame whose samples are of so many channels; it doesn't test the EtherType. Writes
- * 10 + 12 * noASDU numbers, 76 + 270 * noASDU octets, noASDU * channels counts and as many quality
- * words, of which bits 13 to 31 are cleared; nothing past them. *place is the refusal's place, 0
- * where accepted.
+ * HOPSICKLE_HEAD_NUMBERS + HOPSICKLE_ASDU_NUMBERS * noASDU numbers, HOPSICKLE_HEAD_OCTETS +
+ * HOPSICKLE_ASDU_OCTETS * noASDU octets, noASDU * channels counts and as many quality words, of which the
+ * bit of HOPSICKLE_QUALITY_LIMIT and all above it are cleared; nothing past them. *place is the refusal's
+ * place, 0 where accepted.
  * Refused: 8; then 1 to 5 in the order of the frame; then 7.
  */
 size_t hopsickle_read(const uint8_t *frame, size_t frame_len, size_t channels,
@@ -275,30 +282,34 @@ size_t hopsickle_values(const float *scales, size_t channels, uint16_t no_asdu,
 
 /*
  * Adds a data set to a store under a confRev that is higher than all held. scales has one scale factor
- * for each channel. Writes how many sets are held, and the confRev, the channels and the 24 scale
- * factors of the added one; nothing else of the store. *held is how many sets are then held, 0 where
- * refused. The confRevs of a store that additions made from an empty one increase strictly.
+ * for each channel. Writes how many sets are held, and the confRev, the channels and the
+ * HOPSICKLE_MAX_CHANNELS scale factors of the added one; nothing else of the store. *held is how many
+ * sets are then held, 0 where refused. The confRevs of a store that additions made from an empty one
+ * increase strictly.
  * Refused: 8; then 14.
  */
-size_t hopsickle_sets_add(uint32_t *sets /* 65 */, float *set_scales /* 768 */, uint32_t conf_rev,
+size_t hopsickle_sets_add(uint32_t *sets /* HOPSICKLE_SET_NUMBERS */,
+                          float *set_scales /* HOPSICKLE_SET_SCALES */, uint32_t conf_rev,
                           const float *scales, size_t channels,
                           size_t *held);
 
 /*
  * Reads a frame as hopsickle_read does, with the channels of the set that is held under the first ASDU's
- * confRev. That set is handed back: *channels, and its 24 scale factors in scales. Every ASDU that is
- * read has its confRev.
+ * confRev. That set is handed back: *channels, and its HOPSICKLE_MAX_CHANNELS scale factors in scales.
+ * Every ASDU that is read has its confRev.
  * Refused: 1 to 4 as hopsickle_read up to the first ASDU's confRev; then 15, and without ASDUs after the
  * length that follows A2 (hexadecimal); then the rest of what hopsickle_read refuses with the channels
  * of the set, 7 as its last; then 16.
  * An addition to the store, taken or refused, changes no answer but 15: a frame that was read is read the
  * same, into arrays of the same lengths, after any later additions.
- * A store that additions didn't make is read too: it holds at most 32 sets, whatever its first number
- * is; of sets with the same confRev the first counts; and one with more than 24 channels is refused 8.
+ * A store that additions didn't make is read too: it holds at most HOPSICKLE_MAX_SETS, whatever its first
+ * number is; of sets with the same confRev the first counts; and one with more channels than
+ * HOPSICKLE_MAX_CHANNELS is refused 8.
  */
 size_t hopsickle_read_by_sets(const uint8_t *frame, size_t frame_len,
-                              const uint32_t *sets /* 65 */, const float *set_scales /* 768 */,
-                              size_t *channels, float *scales /* 24 */,
+                              const uint32_t *sets /* HOPSICKLE_SET_NUMBERS */,
+                              const float *set_scales /* HOPSICKLE_SET_SCALES */,
+                              size_t *channels, float *scales /* HOPSICKLE_MAX_CHANNELS */,
                               uint32_t *numbers, size_t numbers_len,
                               uint8_t *octets, size_t octets_len,
                               int32_t *counts, size_t counts_len,

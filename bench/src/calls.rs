@@ -1,5 +1,9 @@
 //! The calls that are measured, each over the frames of a case again and again.
 
+#[path = "../../bindings/rust/src/slices.rs"]
+#[allow(dead_code)]
+mod slices;
+
 use crate::case::{Case, Flat, CONF_REV, FRAMES};
 use hopsickle::{sys, Form};
 use oracle::original::{decode_smv, encode_smv, ethernet_header};
@@ -156,50 +160,34 @@ pub fn flat_reading_values(case: &Case) -> Call<'_> {
     Box::new(move |n| {
         for i in 0..n {
             read(None, case, i, &mut to);
-            let mut written = 0;
-            // SAFETY: each pointer is that of a slice or array of as many elements as are named after
-            // it.
-            let number = unsafe {
-                sys::hopsickle_values(
-                    case.scales.as_ptr(),
-                    case.scales.len(),
-                    to.numbers[sys::NO_ASDU] as u16,
-                    to.counts.as_ptr(),
-                    to.counts.len(),
-                    to.values.as_mut_ptr(),
-                    to.values.len(),
-                    &mut written,
-                )
-            };
+            let no_asdu = to.numbers[sys::NO_ASDU] as u16;
+            let Flat { counts, values, .. } = &mut to;
+            let number = slices::values(&case.scales, no_asdu, counts, values, &mut 0);
             assert_eq!(number, 0);
             black_box(&mut to);
         }
     })
 }
 
-fn write(fixed: bool, case: &Case, i: usize, frame: &mut [u8]) {
+/// Writes a frame by a function of the library.
+fn write_by(
+    case: &Case,
+    i: usize,
+    frame: &mut [u8],
+    call: impl FnOnce(&Flat, &mut [u8], &mut usize) -> usize,
+) {
     let flat = black_box(&case.frames[i % FRAMES].flat);
     let mut size = 0;
-    // SAFETY: as in `flat_reading_values`.
-    let number = unsafe {
-        sys::hopsickle_write(
-            flat.numbers.as_ptr(),
-            flat.numbers.len(),
-            flat.octets.as_ptr(),
-            flat.octets.len(),
-            case.shape.channels,
-            fixed,
-            flat.counts.as_ptr(),
-            flat.counts.len(),
-            flat.qualities.as_ptr(),
-            flat.qualities.len(),
-            frame.as_mut_ptr(),
-            frame.len(),
-            &mut size,
-        )
-    };
+    let number = call(flat, frame, &mut size);
     assert_eq!(number, 0);
     black_box((frame, size));
+}
+
+fn write(fixed: bool, case: &Case, i: usize, frame: &mut [u8]) {
+    write_by(case, i, frame, |flat, frame, size| {
+        let Flat { numbers: n, octets: o, counts: c, qualities: q, .. } = flat;
+        slices::write(n, o, case.shape.channels, fixed, c, q, frame, size)
+    });
 }
 
 pub fn flat_writing(case: &Case) -> Call<'_> {
@@ -216,29 +204,10 @@ pub fn flat_writing_values(case: &Case) -> Call<'_> {
     let mut frame = [0; sys::MAX_FRAME];
     Box::new(move |n| {
         for i in 0..n {
-            let flat = black_box(&case.frames[i % FRAMES].flat);
-            let mut size = 0;
-            // SAFETY: as in `flat_reading_values`.
-            let number = unsafe {
-                sys::hopsickle_write_values(
-                    flat.numbers.as_ptr(),
-                    flat.numbers.len(),
-                    flat.octets.as_ptr(),
-                    flat.octets.len(),
-                    case.scales.as_ptr(),
-                    case.scales.len(),
-                    false,
-                    flat.values.as_ptr(),
-                    flat.values.len(),
-                    flat.qualities.as_ptr(),
-                    flat.qualities.len(),
-                    frame.as_mut_ptr(),
-                    frame.len(),
-                    &mut size,
-                )
-            };
-            assert_eq!(number, 0);
-            black_box((&mut frame, size));
+            write_by(case, i, &mut frame, |flat, frame, size| {
+                let Flat { numbers: n, octets: o, values: v, qualities: q, .. } = flat;
+                slices::write_values(n, o, &case.scales, false, v, q, frame, size)
+            });
         }
     })
 }

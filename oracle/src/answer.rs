@@ -3,8 +3,7 @@
 use crate::layout::{bits, Cursor, Header, Pdu, Sample};
 use crate::original::{decode_smv, encode_smv, ethernet_header};
 use crate::types::{
-    DecodeError, EncodeError, EthernetHeader, Quality, SavDataSetConfig, SavPdu, SavValueConfig,
-    TimeQuality, Timestamp,
+    self, DecodeError, EncodeError, EthernetHeader, SavDataSetConfig, SavPdu, SavValueConfig,
 };
 use std::cell::RefCell;
 use std::panic::{catch_unwind, AssertUnwindSafe};
@@ -134,15 +133,10 @@ fn ask(kind: u8, request: &[u8]) -> Answer {
         b'u' => write_unsigned(request),
         b'r' => read_unsigned(request),
         b't' => read_tag_length(request),
-        b'q' => quality(request),
-        b'b' => time_quality(request),
-        b'd' => timestamp(request),
-        b'n' => nanoseconds(request),
-        b'w' => write_timestamp(request),
         b'c' => count(request),
         b'v' => value(request),
         b'k' => le_92(request),
-        _ => None,
+        _ => of_types(kind, request).map(Ok),
     }
 }
 
@@ -273,89 +267,7 @@ fn read_tag_length(request: &mut Cursor) -> Answer {
     })
 }
 
-fn quality(request: &mut Cursor) -> Answer {
-    let word = request.u32()?;
-    request.end()?;
-    let quality = Quality::from_sv(word);
-    let mut out = vec![quality.validity as u8];
-    out.extend(
-        [
-            quality.overflow,
-            quality.out_of_range,
-            quality.bad_reference,
-            quality.oscillatory,
-            quality.failure,
-            quality.old_data,
-            quality.inconsistent,
-            quality.inaccurate,
-            quality.source_substituted,
-            quality.test,
-            quality.operator_blocked,
-        ]
-        .map(u8::from),
-    );
-    out.extend(quality.to_sv().to_be_bytes());
-    out.push(u8::from(quality.is_good()));
-    Some(Ok(out))
-}
-
-fn put_time_quality(out: &mut Vec<u8>, quality: &TimeQuality) {
-    out.push(u8::from(quality.leap_second_known));
-    out.push(u8::from(quality.clock_failure));
-    out.push(u8::from(quality.clock_not_synchronized));
-    out.push(quality.time_accuracy);
-}
-
-fn put_accuracy_bits(out: &mut Vec<u8>, quality: &TimeQuality) {
-    let accuracy = quality.accuracy_bits();
-    out.push(u8::from(accuracy.is_some()));
-    out.push(accuracy.unwrap_or(0));
-}
-
-fn time_quality(request: &mut Cursor) -> Answer {
-    let quality = TimeQuality::from_byte(request.u8()?);
-    request.end()?;
-    let mut out = vec![];
-    put_time_quality(&mut out, &quality);
-    out.push(quality.to_byte());
-    put_accuracy_bits(&mut out, &quality);
-    Some(Ok(out))
-}
-
-fn timestamp(request: &mut Cursor) -> Answer {
-    let time = Timestamp::from_bytes(request.fixed()?);
-    request.end()?;
-    let mut out = vec![];
-    out.extend(time.seconds.to_be_bytes());
-    out.extend(time.fraction.to_be_bytes());
-    put_time_quality(&mut out, &time.quality);
-    out.extend(time.to_bytes());
-    out.extend(time.fraction_as_nanos().to_be_bytes());
-    Some(Ok(out))
-}
-
-fn nanoseconds(request: &mut Cursor) -> Answer {
-    let time = Timestamp { seconds: 0, fraction: request.u32()?, quality: TimeQuality::default() };
-    request.end()?;
-    Some(Ok(time.fraction_as_nanos().to_be_bytes().to_vec()))
-}
-
-fn write_timestamp(request: &mut Cursor) -> Answer {
-    let time = Timestamp {
-        seconds: request.u32()?,
-        fraction: request.u32()?,
-        quality: TimeQuality {
-            leap_second_known: request.mark()?,
-            clock_failure: request.mark()?,
-            clock_not_synchronized: request.mark()?,
-            time_accuracy: request.u8()?,
-        },
-    };
-    request.end()?;
-    let mut out = time.to_bytes().to_vec();
-    put_accuracy_bits(&mut out, &time.quality);
-    Some(Ok(out))
-}
+crate::of_types!(types);
 
 fn count(request: &mut Cursor) -> Answer {
     let sample = Sample { value: request.u32()?, scale: request.u32()?, quality: 0 };

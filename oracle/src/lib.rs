@@ -7,6 +7,7 @@ pub mod frame;
 pub mod generate;
 pub mod hex;
 pub mod layout;
+mod of_types;
 pub mod original;
 pub mod record;
 // The original's own file: not to be formatted from here.

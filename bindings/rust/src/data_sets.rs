@@ -4,7 +4,7 @@ use crate::sys::*;
 use crate::types::{SavDataSetConfig, SavValueConfig};
 use crate::Refusal;
 
-/// A store of up to 32 data sets, each under its confRev, each addition higher than all held.
+/// A store of up to [`MAX_SETS`] data sets, each under its confRev, each addition higher than all held.
 ///
 /// An addition, taken or refused, changes no answer of [`crate::read_by_sets`] but 15, so a frame that
 /// was read is read the same after later additions.
@@ -42,8 +42,8 @@ impl DataSets {
     }
 
     /// Adds a data set under a confRev that is higher than all held: how many sets are then held.
-    /// Refused as 8 with more than 24 channels, then as 14 where the confRev isn't higher or 32 sets
-    /// are held. A refusal leaves the store.
+    /// Refused as 8 with more than [`MAX_CHANNELS`], then as 14 where the confRev isn't higher or
+    /// [`MAX_SETS`] are held. A refusal leaves the store.
     pub fn add(&mut self, conf_rev: u32, set: &SavDataSetConfig) -> Result<usize, Refusal> {
         let scales: Vec<f32> = set.config.iter().map(|channel| channel.scale_factor).collect();
         let mut held = 0;

@@ -1,6 +1,7 @@
 //! A frame in the arrays that cross to the library, between the octets and the records.
 
 use crate::data_sets::data_set;
+use crate::slices;
 use crate::sys::*;
 use crate::types::{
     EthernetHeader, Quality, Sample, SavAsdu, SavDataSetConfig, SavPdu, SavValueConfig,
@@ -67,6 +68,15 @@ pub(crate) fn with_scratch<T>(work: impl FnOnce(&mut Scratch) -> T) -> T {
 
 // ---- reading
 
+/// How a frame is read, or, from a place on, its PDU.
+enum Reading {
+    Ordinary,
+    Checked,
+    Strict { fixed: bool },
+    Granted { mask: u32 },
+    Pdu { at: usize },
+}
+
 impl Frame {
     /// Reads a frame of this data set the ordinary way. A refusal leaves what was read before.
     pub fn read(&mut self, frame: &[u8], config: &SavDataSetConfig) -> Result<(), Refusal> {
@@ -131,6 +141,8 @@ impl Frame {
         Ok(set)
     }
 
+    // This and `fill` are inlined, so that each reading has its own call and none a choice to make.
+    #[inline(always)]
     fn read_as(
         &mut self,
         reading: Reading,
@@ -142,18 +154,18 @@ impl Frame {
     }
 
     /// Reads a frame of so many channels into the arrays.
+    #[inline(always)]
     fn fill(&mut self, reading: Reading, frame: &[u8], channels: usize) -> Result<(), Refusal> {
+        let Frame { numbers: n, octets: o, counts: c, qualities: q, .. } = self;
         let mut place = 0;
-        let number = read_as(
-            reading,
-            frame,
-            channels,
-            &mut self.numbers,
-            &mut self.octets,
-            &mut self.counts,
-            &mut self.qualities,
-            &mut place,
-        );
+        let p = &mut place;
+        let number = match reading {
+            Reading::Ordinary => slices::read(frame, channels, n, o, c, q, p),
+            Reading::Checked => slices::read_checked(frame, channels, n, o, c, q, p),
+            Reading::Strict { fixed } => slices::read_strict(frame, channels, fixed, n, o, c, q, p),
+            Reading::Granted { mask } => slices::read_granted(frame, channels, mask, n, o, c, q, p),
+            Reading::Pdu { at } => slices::decode(frame, at, channels, n, o, c, q, p),
+        };
         Refusal::check(number, place)
     }
 
@@ -164,28 +176,7 @@ impl Frame {
         at: usize,
         data: &SavDataSetConfig,
     ) -> Result<(), Refusal> {
-        let mut place = 0;
-        // SAFETY: every pointer is that of a slice or array of as many elements as are named after
-        // it, those to be written are borrowed exclusively, and `place` is a local.
-        let number = unsafe {
-            hopsickle_decode(
-                buffer.as_ptr(),
-                buffer.len(),
-                at,
-                data.config.len(),
-                self.numbers.as_mut_ptr(),
-                self.numbers.len(),
-                self.octets.as_mut_ptr(),
-                self.octets.len(),
-                self.counts.as_mut_ptr(),
-                self.counts.len(),
-                self.qualities.as_mut_ptr(),
-                self.qualities.len(),
-                &mut place,
-            )
-        };
-        Refusal::check(number, place)?;
-        self.scale(data.config.iter())
+        self.read_as(Reading::Pdu { at }, buffer, data)
     }
 
     /// The values of the counts that were read, which are those of these channels.
@@ -198,21 +189,9 @@ impl Frame {
             *scale = channel.scale_factor;
             self.channels += 1;
         }
-        let mut written = 0;
-        // SAFETY: as in `decode`; what was read has at most 24 channels, and so many scale factors
-        // are there.
-        let number = unsafe {
-            hopsickle_values(
-                self.scales.as_ptr(),
-                self.channels,
-                self.no_asdu() as u16,
-                self.counts.as_ptr(),
-                self.counts.len(),
-                self.values.as_mut_ptr(),
-                self.values.len(),
-                &mut written,
-            )
-        };
+        let no_asdu = self.no_asdu() as u16;
+        let scales = &self.scales[..self.channels];
+        let number = slices::values(scales, no_asdu, &self.counts, &mut self.values, &mut 0);
         Refusal::check(number, 0)
     }
 }
@@ -320,7 +299,7 @@ fn array<const N: usize>(octets: &[u8], at: usize) -> [u8; N] {
     octets.get(at..at + N).and_then(|octets| octets.try_into().ok()).unwrap_or([0; N])
 }
 
-/// The header of the first 6 numbers and the first 12 octets.
+/// The header of the first `HEADER_NUMBERS` numbers and the first `HEADER_OCTETS` octets.
 pub(crate) fn header_of(numbers: &[u32], octets: &[u8]) -> EthernetHeader {
     let two = |at: usize| (numbers[at] as u16).to_be_bytes();
     let tagged = numbers[TAGGED] == 1;
@@ -395,26 +374,9 @@ impl Frame {
         form: Form,
         frame: &mut [u8],
     ) -> Result<usize, Refusal> {
-        let mut size = 0;
-        // SAFETY: every pointer is that of a slice or array of as many elements as are named after
-        // it, the frame is borrowed exclusively, and `size` is a local.
-        let number = unsafe {
-            hopsickle_write(
-                self.numbers.as_ptr(),
-                self.numbers.len(),
-                self.octets.as_ptr(),
-                self.octets.len(),
-                self.channels,
-                form.is_fixed(),
-                counts.as_ptr(),
-                counts.len(),
-                self.qualities.as_ptr(),
-                self.qualities.len(),
-                frame.as_mut_ptr(),
-                frame.len(),
-                &mut size,
-            )
-        };
+        let Frame { channels, numbers: n, octets: o, qualities: q, .. } = self;
+        let (fixed, mut size) = (form.is_fixed(), 0);
+        let number = slices::write(n, o, *channels, fixed, counts, q, frame, &mut size);
         Refusal::check(number, 0).map(|()| size)
     }
 
@@ -426,44 +388,17 @@ impl Frame {
 
     /// Writes the frame of what was described, with its values.
     pub(crate) fn write_values(&self, form: Form, frame: &mut [u8]) -> Result<usize, Refusal> {
-        let mut size = 0;
-        // SAFETY: as in `write_counts`; there are at least as many scale factors as channels.
-        let number = unsafe {
-            hopsickle_write_values(
-                self.numbers.as_ptr(),
-                self.numbers.len(),
-                self.octets.as_ptr(),
-                self.octets.len(),
-                self.scales.as_ptr(),
-                self.channels,
-                form.is_fixed(),
-                self.values.as_ptr(),
-                self.values.len(),
-                self.qualities.as_ptr(),
-                self.qualities.len(),
-                frame.as_mut_ptr(),
-                frame.len(),
-                &mut size,
-            )
-        };
+        let Frame { numbers: n, octets: o, values, qualities: q, .. } = self;
+        let (scales, fixed, mut size) = (&self.scales[..self.channels], form.is_fixed(), 0);
+        let number = slices::write_values(n, o, scales, fixed, values, q, frame, &mut size);
         Refusal::check(number, 0).map(|()| size)
     }
 
     /// How many octets the writers write.
     pub(crate) fn size(&self, form: Form) -> Result<usize, Refusal> {
+        let Frame { channels, numbers, octets, .. } = self;
         let mut size = 0;
-        // SAFETY: as in `write_counts`.
-        let number = unsafe {
-            hopsickle_size(
-                self.numbers.as_ptr(),
-                self.numbers.len(),
-                self.octets.as_ptr(),
-                self.octets.len(),
-                self.channels,
-                form.is_fixed(),
-                &mut size,
-            )
-        };
+        let number = slices::size(numbers, octets, *channels, form.is_fixed(), &mut size);
         Refusal::check(number, 0).map(|()| size)
     }
 }

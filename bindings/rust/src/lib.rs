@@ -20,6 +20,7 @@ mod form;
 mod frame;
 mod refusal;
 pub mod rt_services;
+mod slices;
 pub mod sys;
 pub mod types;
 

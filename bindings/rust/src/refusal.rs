@@ -1,6 +1,8 @@
 //! Why a call was turned away.
 
+use crate::sys::{ACCEPTED, MAX_ASDUS, MAX_CHANNELS, MAX_PDU, MAX_SETS};
 use std::fmt;
+use std::sync::LazyLock;
 
 /// A refusal: its number, and the place, an octet's index from the buffer's start. The place is 0
 /// from 7 to 11 and from 14 to 16. The numbers are the associated constants.
@@ -11,29 +13,40 @@ pub struct Refusal {
 }
 
 /// The numbers with their sentences.
-const SENTENCES: [(usize, &str); 15] = [
-    (Refusal::ENDS_TOO_SOON, "The octets end too soon."),
-    (Refusal::BAD_LENGTH, "A length octet is 80, or 84 to FF."),
-    (Refusal::INTEGER_TOO_LONG, "An integer is too long for its field."),
-    (
-        Refusal::TOO_LONG_TO_HOLD,
-        "noASDU is above 8, or svID, datSet or security is too long to hold.",
-    ),
-    (Refusal::GM_IDENTITY_TOO_LONG, "gmIdentity is above 8 octets."),
-    (Refusal::NOT_AS_WRITTEN, "The frame is not what the writer writes."),
-    (Refusal::NO_ROOM, "A lent buffer or array is too short."),
-    (Refusal::TOO_MANY_CHANNELS, "There are more than 24 channels."),
-    (Refusal::BAD_DESCRIPTION, "The description is outside the limits."),
-    (Refusal::TOO_LONG_TO_WRITE, "The PDU is above 1,492 octets."),
-    (Refusal::VALUE_OUT_OF_RANGE, "A scaled value is below -2^31 or above 2^31."),
-    (Refusal::LENGTHS_DIFFER, "In an ASDU the length after 87 is not 8 times the channels."),
-    (Refusal::SET_NOT_ADDED, "The confRev is not higher than all held, or 32 data sets are held."),
-    (
-        Refusal::NO_SET,
-        "No data set is held for the confRev of the first ASDU, or there is no ASDU.",
-    ),
-    (Refusal::OTHER_CONF_REV, "A later ASDU has another confRev than the first."),
-];
+static SENTENCES: LazyLock<[(usize, String); 15]> = LazyLock::new(|| {
+    let (thousands, rest) = (MAX_PDU / 1000, MAX_PDU % 1000);
+    [
+        (Refusal::ENDS_TOO_SOON, "The octets end too soon.".into()),
+        (Refusal::BAD_LENGTH, "A length octet is 80, or 84 to FF.".into()),
+        (Refusal::INTEGER_TOO_LONG, "An integer is too long for its field.".into()),
+        (
+            Refusal::TOO_LONG_TO_HOLD,
+            format!(
+                "noASDU is above {MAX_ASDUS}, or svID, datSet or security is too long to hold."
+            ),
+        ),
+        (Refusal::GM_IDENTITY_TOO_LONG, "gmIdentity is above 8 octets.".into()),
+        (Refusal::NOT_AS_WRITTEN, "The frame is not what the writer writes.".into()),
+        (Refusal::NO_ROOM, "A lent buffer or array is too short.".into()),
+        (Refusal::TOO_MANY_CHANNELS, format!("There are more than {MAX_CHANNELS} channels.")),
+        (Refusal::BAD_DESCRIPTION, "The description is outside the limits.".into()),
+        (Refusal::TOO_LONG_TO_WRITE, format!("The PDU is above {thousands},{rest:03} octets.")),
+        (Refusal::VALUE_OUT_OF_RANGE, "A scaled value is below -2^31 or above 2^31.".into()),
+        (
+            Refusal::LENGTHS_DIFFER,
+            "In an ASDU the length after 87 is not 8 times the channels.".into(),
+        ),
+        (
+            Refusal::SET_NOT_ADDED,
+            format!("The confRev is not higher than all held, or {MAX_SETS} data sets are held."),
+        ),
+        (
+            Refusal::NO_SET,
+            "No data set is held for the confRev of the first ASDU, or there is no ASDU.".into(),
+        ),
+        (Refusal::OTHER_CONF_REV, "A later ASDU has another confRev than the first.".into()),
+    ]
+});
 
 impl Refusal {
     pub const ENDS_TOO_SOON: usize = 1;
@@ -67,7 +80,7 @@ impl Refusal {
     /// What a call of the library answered: 0 is acceptance.
     pub(crate) fn check(number: usize, place: usize) -> Result<(), Refusal> {
         match number {
-            0 => Ok(()),
+            ACCEPTED => Ok(()),
             _ => Err(Refusal { number, place }),
         }
     }

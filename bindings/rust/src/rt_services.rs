@@ -1,10 +1,10 @@
 //! The functions of the original, under its names, and those that this project adds.
 
 use crate::frame::{header_of, with_scratch, Frame};
-use crate::sys;
 use crate::types::{
     DecodeError, EncodeError, EthernetHeader, SavAsdu, SavDataSetConfig, SavPdu, SavValueConfig,
 };
+use crate::{slices, sys};
 use crate::{DataSets, Form, Refusal};
 
 // ---- the original's
@@ -18,21 +18,10 @@ pub fn is_smv_frame(buffer: &[u8]) -> bool {
 /// Reads the header of a frame: the place after it. Where the octets end too soon, the header is left
 /// and the place is the buffer's length, from where [`decode_smv`] is refused.
 pub fn decode_ethernet_header(header: &mut EthernetHeader, buffer: &[u8]) -> usize {
-    let (mut numbers, mut octets, mut place) = ([0; 6], [0; 12], 0);
-    // SAFETY: every pointer is that of a slice or array of as many elements as are named after it,
-    // those to be written are locals.
-    let number = unsafe {
-        sys::hopsickle_header(
-            buffer.as_ptr(),
-            buffer.len(),
-            numbers.as_mut_ptr(),
-            numbers.len(),
-            octets.as_mut_ptr(),
-            octets.len(),
-            &mut place,
-        )
-    };
-    if number != 0 {
+    let (mut numbers, mut octets) = ([0; sys::HEADER_NUMBERS], [0; sys::HEADER_OCTETS]);
+    let mut place = 0;
+    let number = slices::header(buffer, &mut numbers, &mut octets, &mut place);
+    if number != sys::ACCEPTED {
         return buffer.len();
     }
     *header = header_of(&numbers, &octets);

@@ -1,6 +1,9 @@
 //! The functions of libhopsickle.a, as include/hopsickle.h declares and describes them, the frame
 //! readers over slices, and the places of a description in its arrays.
 
+use crate::slices;
+pub use crate::slices::{read_by_sets, read_checked, read_granted, sets_add};
+
 extern "C" {
     pub fn hopsickle_is_smv(frame: *const u8, frame_len: usize) -> bool;
 
@@ -174,53 +177,6 @@ extern "C" {
     ) -> usize;
 }
 
-/// How a frame is read.
-pub(crate) enum Reading {
-    Ordinary,
-    Checked,
-    Strict { fixed: bool },
-    Granted { mask: u32 },
-}
-
-/// `hopsickle_read`, `hopsickle_read_checked`, `hopsickle_read_strict` or `hopsickle_read_granted`, over
-/// slices.
-#[inline]
-#[allow(clippy::too_many_arguments)]
-pub(crate) fn read_as(
-    reading: Reading,
-    frame: &[u8],
-    channels: usize,
-    numbers: &mut [u32],
-    octets: &mut [u8],
-    counts: &mut [i32],
-    qualities: &mut [u32],
-    place: &mut usize,
-) -> usize {
-    let (s, s_len) = (frame.as_ptr(), frame.len());
-    let (n, n_len) = (numbers.as_mut_ptr(), numbers.len());
-    let (o, o_len) = (octets.as_mut_ptr(), octets.len());
-    let (c, c_len) = (counts.as_mut_ptr(), counts.len());
-    let (q, q_len) = (qualities.as_mut_ptr(), qualities.len());
-    // SAFETY: every pointer is that of a slice of as many elements as are named after it, and those
-    // to be written are borrowed exclusively.
-    unsafe {
-        match reading {
-            Reading::Ordinary => {
-                hopsickle_read(s, s_len, channels, n, n_len, o, o_len, c, c_len, q, q_len, place)
-            }
-            Reading::Checked => hopsickle_read_checked(
-                s, s_len, channels, n, n_len, o, o_len, c, c_len, q, q_len, place,
-            ),
-            Reading::Strict { fixed } => hopsickle_read_strict(
-                s, s_len, channels, fixed, n, n_len, o, o_len, c, c_len, q, q_len, place,
-            ),
-            Reading::Granted { mask } => hopsickle_read_granted(
-                s, s_len, channels, mask, n, n_len, o, o_len, c, c_len, q, q_len, place,
-            ),
-        }
-    }
-}
-
 /// `hopsickle_read`, or, where `strict` is the form, `hopsickle_read_strict`, over slices.
 #[inline]
 #[allow(clippy::too_many_arguments)]
@@ -234,111 +190,41 @@ pub fn read(
     qualities: &mut [u32],
     place: &mut usize,
 ) -> usize {
-    let reading = strict.map_or(Reading::Ordinary, |fixed| Reading::Strict { fixed });
-    read_as(reading, frame, channels, numbers, octets, counts, qualities, place)
-}
-
-/// `hopsickle_read_checked` over slices.
-#[inline]
-pub fn read_checked(
-    frame: &[u8],
-    channels: usize,
-    numbers: &mut [u32],
-    octets: &mut [u8],
-    counts: &mut [i32],
-    qualities: &mut [u32],
-    place: &mut usize,
-) -> usize {
-    read_as(Reading::Checked, frame, channels, numbers, octets, counts, qualities, place)
-}
-
-/// `hopsickle_read_granted` over slices: of the samples, those of the channels whose bit of `mask` is
-/// set.
-#[inline]
-#[allow(clippy::too_many_arguments)]
-pub fn read_granted(
-    frame: &[u8],
-    channels: usize,
-    mask: u32,
-    numbers: &mut [u32],
-    octets: &mut [u8],
-    counts: &mut [i32],
-    qualities: &mut [u32],
-    place: &mut usize,
-) -> usize {
-    read_as(Reading::Granted { mask }, frame, channels, numbers, octets, counts, qualities, place)
-}
-
-/// `hopsickle_sets_add` over slices: one scale factor for each channel.
-#[inline]
-pub fn sets_add(
-    sets: &mut [u32; SET_NUMBERS],
-    set_scales: &mut [f32; SET_SCALES],
-    conf_rev: u32,
-    scales: &[f32],
-    held: &mut usize,
-) -> usize {
-    // SAFETY: the pointers are those of arrays of the fixed lengths and of a slice of as many elements
-    // as are named after it, and those to be written are borrowed exclusively.
-    unsafe {
-        hopsickle_sets_add(
-            sets.as_mut_ptr(),
-            set_scales.as_mut_ptr(),
-            conf_rev,
-            scales.as_ptr(),
-            scales.len(),
-            held,
-        )
+    let (n, o, c, q) = (numbers, octets, counts, qualities);
+    match strict {
+        None => slices::read(frame, channels, n, o, c, q, place),
+        Some(fixed) => slices::read_strict(frame, channels, fixed, n, o, c, q, place),
     }
 }
 
-/// `hopsickle_read_by_sets` over slices: `channels` and `scales` are those of the set that is handed
-/// back.
-#[inline]
-#[allow(clippy::too_many_arguments)]
-pub fn read_by_sets(
-    frame: &[u8],
-    sets: &[u32; SET_NUMBERS],
-    set_scales: &[f32; SET_SCALES],
-    channels: &mut usize,
-    scales: &mut [f32; MAX_CHANNELS],
-    numbers: &mut [u32],
-    octets: &mut [u8],
-    counts: &mut [i32],
-    qualities: &mut [u32],
-    place: &mut usize,
-) -> usize {
-    // SAFETY: as in `sets_add`.
-    unsafe {
-        hopsickle_read_by_sets(
-            frame.as_ptr(),
-            frame.len(),
-            sets.as_ptr(),
-            set_scales.as_ptr(),
-            channels,
-            scales.as_mut_ptr(),
-            numbers.as_mut_ptr(),
-            numbers.len(),
-            octets.as_mut_ptr(),
-            octets.len(),
-            counts.as_mut_ptr(),
-            counts.len(),
-            qualities.as_mut_ptr(),
-            qualities.len(),
-            place,
-        )
-    }
-}
+/// What a function answers where it accepts. [`crate::Refusal`] has the numbers of the refusals.
+pub const ACCEPTED: usize = 0;
+
+// The limits.
 
 pub const MAX_ASDUS: usize = 8;
 pub const MAX_CHANNELS: usize = 24;
-pub const MAX_SAMPLES: usize = 192;
+/// Octets of svID, and of datSet.
 pub const MAX_TEXT: usize = 127;
+/// Octets.
 pub const MAX_SECURITY: usize = 64;
-pub const MAX_FRAME: usize = 1518;
+/// Octets of a written PDU, from its tag to its end.
+pub const MAX_PDU: usize = 1492;
+/// A quality word is below this, which is a power of 2.
+pub const QUALITY_LIMIT: u32 = 8192;
+/// Data sets of a store.
 pub const MAX_SETS: usize = 32;
-pub const SET_NUMBERS: usize = 65;
-pub const SET_SCALES: usize = 768;
+
+// What follows from them.
+
+/// Samples of all ASDUs.
+pub const MAX_SAMPLES: usize = MAX_ASDUS * MAX_CHANNELS;
+/// Octets of a written frame, with a VLAN tag.
+pub const MAX_FRAME: usize = 26 + MAX_PDU;
+/// Elements of a store's numbers.
+pub const SET_NUMBERS: usize = 1 + 2 * MAX_SETS;
+/// Elements of a store's scale factors.
+pub const SET_SCALES: usize = MAX_SETS * MAX_CHANNELS;
 
 pub const TAGGED: usize = 0;
 pub const TPID: usize = 1;
@@ -369,18 +255,28 @@ pub const ASDU_NUMBERS: usize = 12;
 
 pub const DST_ADDR: usize = 0;
 pub const SRC_ADDR: usize = 6;
-pub const SECURITY_OCTETS: usize = 12;
-pub const HEAD_OCTETS: usize = 76;
-pub const HEADER_OCTETS: usize = 12;
+pub const SECURITY_OCTETS: usize = SRC_ADDR + 6;
+pub const HEAD_OCTETS: usize = SECURITY_OCTETS + MAX_SECURITY;
+pub const HEADER_OCTETS: usize = SECURITY_OCTETS;
 
 pub const SV_ID_OCTETS: usize = 0;
-pub const DAT_SET_OCTETS: usize = 127;
-pub const REFR_TM_OCTETS: usize = 254;
-pub const GM_IDENTITY_OCTETS: usize = 262;
-pub const ASDU_OCTETS: usize = 270;
+pub const DAT_SET_OCTETS: usize = SV_ID_OCTETS + MAX_TEXT;
+pub const REFR_TM_OCTETS: usize = DAT_SET_OCTETS + MAX_TEXT;
+pub const GM_IDENTITY_OCTETS: usize = REFR_TM_OCTETS + 8;
+pub const ASDU_OCTETS: usize = GM_IDENTITY_OCTETS + 8;
 
-pub const MAX_NUMBERS: usize = 106;
-pub const MAX_OCTETS: usize = 2236;
+/// The place of a number of ASDU `i`.
+pub const fn number(i: usize, place: usize) -> usize {
+    HEAD_NUMBERS + i * ASDU_NUMBERS + place
+}
+
+/// The place of an octet of ASDU `i`.
+pub const fn octet(i: usize, place: usize) -> usize {
+    HEAD_OCTETS + i * ASDU_OCTETS + place
+}
+
+pub const MAX_NUMBERS: usize = HEAD_NUMBERS + MAX_ASDUS * ASDU_NUMBERS;
+pub const MAX_OCTETS: usize = HEAD_OCTETS + MAX_ASDUS * ASDU_OCTETS;
 
 pub const SETS_HELD: usize = 0;
 

@@ -120,8 +120,8 @@ pub struct Quality {
 }
 
 impl Quality {
-    /// Of the quality word of a sample: validity is bits 0 and 1, the flags are bits 2 to 12. Bits 13
-    /// to 31 are dropped.
+    /// Of the quality word of a sample: validity is bits 0 and 1, the flags are bits 2 to 12. All other
+    /// bits are dropped.
     pub fn from_sv(quality_u32: u32) -> Self {
         let bit = |i: u32| quality_u32 >> i & 1 == 1;
         Quality {

@@ -6,6 +6,7 @@ mod environment;
 
 use environment::number;
 use hopsickle as ours;
+use hopsickle::sys::{MAX_ASDUS, MAX_CHANNELS, MAX_FRAME, MAX_PDU, MAX_SECURITY, MAX_TEXT};
 use hopsickle::{Form, Frame, Refusal};
 use oracle::answer::{answer, quiet_panics, ACCEPTED, PANICKED, REFUSED};
 use oracle::frame::{fixed, header_size};
@@ -131,15 +132,15 @@ fn above(s: &[u8], start: usize, place: usize) -> bool {
     if place == no_asdu {
         return match length {
             0 => 0x80 <= octet(place),
-            1 => 8 < octet(place),
-            2 => 8 < octet(place) << 8 | octet(place + 1),
+            1 => MAX_ASDUS < octet(place),
+            2 => MAX_ASDUS < octet(place) << 8 | octet(place + 1),
             _ => length == 3,
         };
     }
     if place == after_head(s, no_asdu + length) {
-        return octet(no_asdu + length) == 0x81 && longer(s, place, 64);
+        return octet(no_asdu + length) == 0x81 && longer(s, place, MAX_SECURITY);
     }
-    longer(s, place, 127)
+    longer(s, place, MAX_TEXT)
 }
 
 /// Whether an answer of the original has something above a limit.
@@ -148,10 +149,10 @@ fn has_above(answer: &mut Cursor, header: bool) -> Option<bool> {
         answer.header()?;
     }
     let pdu = answer.pdu()?;
-    let long = |text: &[u8]| 127 < text.len();
+    let long = |text: &[u8]| MAX_TEXT < text.len();
     Some(
-        8 < pdu.asdus.len()
-            || pdu.security.is_some_and(|octets| 64 < octets.len())
+        MAX_ASDUS < pdu.asdus.len()
+            || pdu.security.is_some_and(|octets| MAX_SECURITY < octets.len())
             || pdu
                 .asdus
                 .iter()
@@ -171,8 +172,8 @@ fn class_of_reading(
     let differs = || Err(format!("{ours:?}, and not {}", hex(theirs)));
     let told = |class, holds| if holds { Ok(class) } else { differs() };
     let refused = ours.as_ref().err().map(|refusal| (refusal.number, refusal.place));
-    if 24 < channels {
-        return told("more than 24 channels: refused 8", refused == Some((8, 0)));
+    if MAX_CHANNELS < channels {
+        return told("too many channels: refused 8", refused == Some((8, 0)));
     }
     if let Some((4, place)) = refused {
         let holds = above(s, start, place)
@@ -224,7 +225,7 @@ fn frame(octets: &[u8]) -> Outcome {
     strict(s, &config, Form::Fixed, &read)?;
     let theirs = answer(b'f', octets);
     let tagged = s.get(12..14) == Some(&[0x81, 0x00]);
-    if config.config.len() <= 24 && s.len() < if tagged { 22 } else { 18 } {
+    if config.config.len() <= MAX_CHANNELS && s.len() < if tagged { 22 } else { 18 } {
         let refusal = Refusal { number: Refusal::ENDS_TOO_SOON, place: s.len() };
         alike("header", (theirs[0], answered), (PANICKED, Err(refusal)))?;
         return Ok("the original panics, header: refused 1 at the buffer length");
@@ -244,7 +245,7 @@ fn strict(
     let owed = match read {
         Err(refusal) => Err(*refusal),
         Ok(frame) => {
-            let mut again = [0; ours::sys::MAX_FRAME];
+            let mut again = [0; MAX_FRAME];
             let size = frame.write(form, &mut again);
             let place = size.map_or(Some(0), |size| {
                 let same = again[..size].iter().zip(s).take_while(|(one, other)| one == other);
@@ -263,7 +264,7 @@ fn strict(
             let texts = |frame: &Frame| {
                 let texts =
                     |i| (frame.sv_id(i).map(<[u8]>::to_vec), frame.dat_set(i).map(<[u8]>::to_vec));
-                (0..9).map(texts).collect::<Vec<_>>()
+                (0..=MAX_ASDUS).map(texts).collect::<Vec<_>>()
             };
             alike("strict reading, texts", texts(&one), texts(other))?;
             alike("strict reading, counts", one.counts(), other.counts())?;
@@ -314,7 +315,7 @@ fn frame_test(octets: &[u8]) -> Outcome {
 /// limits; and what no description can say.
 fn refused_as(header: &Header, pdu: &Pdu) -> Option<(usize, &'static str)> {
     let channels = pdu.asdus.first().map_or(0, |asdu| asdu.samples.len());
-    let long = |text: &[u8]| 127 < text.len();
+    let long = |text: &[u8]| MAX_TEXT < text.len();
     if 1 < header.vlan {
         return Some((9, "half a VLAN tag: refused 9"));
     }
@@ -324,13 +325,13 @@ fn refused_as(header: &Header, pdu: &Pdu) -> Option<(usize, &'static str)> {
     if pdu.asdus.iter().any(|asdu| asdu.samples.len() != channels) {
         return Some((9, "numbers of samples that differ: refused 9"));
     }
-    if 24 < channels {
-        return Some((8, "more than 24 channels: refused 8"));
+    if MAX_CHANNELS < channels {
+        return Some((8, "too many channels: refused 8"));
     }
-    let outside = !(1..=8).contains(&pdu.asdus.len())
+    let outside = !(1..=MAX_ASDUS).contains(&pdu.asdus.len())
         || header.ether_type != [0x88, 0xba]
         || header.vlan == 1 && header.tpid != [0x81, 0x00]
-        || pdu.security.as_ref().is_some_and(|octets| 64 < octets.len())
+        || pdu.security.as_ref().is_some_and(|octets| MAX_SECURITY < octets.len())
         || pdu.asdus.iter().any(|one| long(&one.sv_id) || one.dat_set.as_deref().is_some_and(long));
     outside.then_some((9, "outside the limits: refused 9"))
 }
@@ -357,8 +358,8 @@ fn encode(random: &mut Random, octets: &[u8]) -> Outcome {
     let (class, owed) = match (refused_as(&header, &pdu), &theirs[..]) {
         (Some((number, class)), _) => (class, Err(number)),
         (None, [REFUSED, 11, ..]) => ("refused alike, at 0", Err(11)),
-        (None, [ACCEPTED, frame @ ..]) if 1492 < frame.len() - header_size(&header) => {
-            ("PDU above 1,492 octets: refused 10", Err(10))
+        (None, [ACCEPTED, frame @ ..]) if MAX_PDU < frame.len() - header_size(&header) => {
+            ("PDU too long to write: refused 10", Err(10))
         }
         (None, [ACCEPTED, frame @ ..]) => ("answered alike", Ok(frame.to_vec())),
         _ => return Err(format!("the original answers {}", hex(&theirs))),
@@ -412,10 +413,10 @@ fn fixed_frame(header: &Header, pdu: &Pdu, counts: &[i32]) -> Result<Vec<u8>, Re
     let samples = pdu.asdus.iter_mut().flat_map(|asdu| &mut asdu.samples);
     for (sample, count) in samples.zip(counts) {
         sample.value = *count as u32;
-        sample.quality &= 0x1fff;
+        sample.quality = theirs::Quality::from_sv(sample.quality).to_sv();
     }
     let frame = fixed(header, &pdu).octets;
-    if 1492 < frame.len() - header_size(header) {
+    if MAX_PDU < frame.len() - header_size(header) {
         return Err(Refusal { number: Refusal::TOO_LONG_TO_WRITE, place: 0 });
     }
     Ok(frame)
@@ -439,8 +440,8 @@ fn size(octets: &[u8]) -> Outcome {
     let number = Cursor(&theirs[1..]).u32().unwrap_or(0) as usize;
     let (class, owed) = match refused_as(&header, &pdu) {
         Some((number, class)) => (class, Err(number)),
-        None if 1492 < number - header_size(&header) => {
-            ("PDU above 1,492 octets: refused 10", Err(10))
+        None if MAX_PDU < number - header_size(&header) => {
+            ("PDU too long to write: refused 10", Err(10))
         }
         None => ("answered alike", Ok(number)),
     };
@@ -492,83 +493,16 @@ fn value_of_count(octets: &[u8]) -> Outcome {
 
 // ---- types
 
-fn put_time_quality(out: &mut Vec<u8>, quality: &ours::TimeQuality) {
-    let marks = [quality.leap_second_known, quality.clock_failure, quality.clock_not_synchronized];
-    out.extend(marks.map(u8::from));
-    out.push(quality.time_accuracy);
-}
+oracle::of_types!(ours);
 
-fn put_accuracy(out: &mut Vec<u8>, quality: &ours::TimeQuality) {
-    let accuracy = quality.accuracy_bits();
-    out.extend([u8::from(accuracy.is_some()), accuracy.unwrap_or(0)]);
-}
-
-fn of_types(kind: u8, octets: &[u8]) -> Option<Vec<u8>> {
-    let mut asked = Cursor(octets);
-    let mut out = vec![ACCEPTED];
-    match kind {
-        b'q' => {
-            let quality = ours::Quality::from_sv(asked.u32()?);
-            out.push(quality.validity as u8);
-            out.extend(
-                [
-                    quality.overflow,
-                    quality.out_of_range,
-                    quality.bad_reference,
-                    quality.oscillatory,
-                    quality.failure,
-                    quality.old_data,
-                    quality.inconsistent,
-                    quality.inaccurate,
-                    quality.source_substituted,
-                    quality.test,
-                    quality.operator_blocked,
-                ]
-                .map(u8::from),
-            );
-            out.extend(quality.to_sv().to_be_bytes());
-            out.push(u8::from(quality.is_good()));
-        }
-        b'b' => {
-            let quality = ours::TimeQuality::from_byte(asked.u8()?);
-            put_time_quality(&mut out, &quality);
-            out.push(quality.to_byte());
-            put_accuracy(&mut out, &quality);
-        }
-        b'd' => {
-            let time = ours::Timestamp::from_bytes(asked.fixed()?);
-            out.extend(time.seconds.to_be_bytes());
-            out.extend(time.fraction.to_be_bytes());
-            put_time_quality(&mut out, &time.quality);
-            out.extend(time.to_bytes());
-            out.extend(time.fraction_as_nanos().to_be_bytes());
-        }
-        b'w' => {
-            let time = ours::Timestamp {
-                seconds: asked.u32()?,
-                fraction: asked.u32()?,
-                quality: ours::TimeQuality {
-                    leap_second_known: asked.mark()?,
-                    clock_failure: asked.mark()?,
-                    clock_not_synchronized: asked.mark()?,
-                    time_accuracy: asked.u8()?,
-                },
-            };
-            out.extend(time.to_bytes());
-            put_accuracy(&mut out, &time.quality);
-        }
-        _ => {
-            // Of a fraction of 2^24 or more the low 24 bits count here, and all 32 there.
-            let fraction = asked.u32()?;
-            if 1 << 24 <= fraction {
-                return Some(answer(kind, octets));
-            }
-            let quality = ours::TimeQuality::default();
-            let time = ours::Timestamp { seconds: 0, fraction, quality };
-            out.extend(time.fraction_as_nanos().to_be_bytes());
-        }
+fn types(kind: u8, octets: &[u8]) -> Outcome {
+    // Of a fraction of 2^24 or more the low 24 bits count here, and all 32 there.
+    let beyond = |fraction| 1 << 24 <= fraction;
+    if kind != b'n' || !Cursor(octets).u32().is_some_and(beyond) {
+        let answered = of_types(kind, &mut Cursor(octets)).ok_or("no request of types")?;
+        alike("type", [&[ACCEPTED], &answered[..]].concat(), answer(kind, octets))?;
     }
-    Some(out)
+    Ok("answered alike")
 }
 
 // ---- all of them
@@ -583,10 +517,7 @@ fn outcome(random: &mut Random, kind: u8, octets: &[u8]) -> Outcome {
         b's' => size(octets),
         b'c' => count_of_value(octets),
         b'v' => value_of_count(octets),
-        b'q' | b'b' | b'd' | b'w' | b'n' => {
-            alike("type", of_types(kind, octets), Some(answer(kind, octets)))?;
-            Ok("answered alike")
-        }
+        b'q' | b'b' | b'd' | b'w' | b'n' => types(kind, octets),
         _ => Ok("not a call of the bindings"),
     }
 }

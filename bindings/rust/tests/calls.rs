@@ -1,5 +1,6 @@
 //! Each call by itself: document 01's octets, limits, refusals with their places, errors.
 
+use hopsickle::sys::{MAX_ASDUS, MAX_CHANNELS, MAX_FRAME, MAX_SECURITY, MAX_SETS, MAX_TEXT};
 use hopsickle::*;
 
 /// Document 01's frame.
@@ -17,6 +18,9 @@ const FIXED_FRAME: [u8; 57] = [
     0x01, 0x41, 0x82, 0x02, 0x00, 0x05, 0x83, 0x04, 0x00, 0x00, 0x00, 0x01, 0x85, 0x01, 0x02, 0x87,
     0x08, 0x00, 0x00, 0x03, 0xe8, 0x00, 0x00, 0x00, 0x00,
 ];
+
+/// More channels than there can be.
+const MANY: usize = MAX_CHANNELS + 1;
 
 fn data_set(scales: &[f32]) -> SavDataSetConfig {
     SavDataSetConfig::new(scales.iter().copied().map(SavValueConfig::new).collect())
@@ -159,8 +163,8 @@ fn refusals_of_reading() {
     assert_eq!(read(&FRAME, 1), None);
     assert_eq!(read(&FRAME[..50], 1), Some(refusal(1, 45)));
     assert_eq!(read(&FRAME, 2), Some(refusal(1, 53)));
-    assert_eq!(read(&FRAME, 25), Some(refusal(8, 0)));
-    assert_eq!(read(&[], 25), Some(refusal(8, 0)));
+    assert_eq!(read(&FRAME, MANY), Some(refusal(8, 0)));
+    assert_eq!(read(&[], MANY), Some(refusal(8, 0)));
     let with = |at: usize, octet: u8| {
         let mut octets = FRAME;
         octets[at] = octet;
@@ -168,7 +172,7 @@ fn refusals_of_reading() {
     };
     assert_eq!(read(&with(23, 0x80), 1), Some(refusal(2, 22)));
     assert_eq!(read(&with(35, 0x04), 1), Some(refusal(3, 36)));
-    assert_eq!(read(&with(26, 9), 1), Some(refusal(4, 26)));
+    assert_eq!(read(&with(26, MAX_ASDUS as u8 + 1), 1), Some(refusal(4, 26)));
     let mut long = FRAME.to_vec();
     long.extend([0x89, 9, 0, 0, 0, 0, 0, 0, 0, 0, 0]);
     assert_eq!(read(&long, 1), Some(refusal(5, 55)));
@@ -242,7 +246,7 @@ fn strict_reading() {
     assert_eq!(read_strict(&other, &data, Form::Shortest).err(), Some(refusal(6, 0)));
     assert_eq!(read_strict(&FRAME[..52], &data, Form::Shortest).err(), Some(refusal(1, 45)));
     assert_eq!(
-        read_strict(&FRAME, &data_set(&[1.0; 25]), Form::Shortest).err(),
+        read_strict(&FRAME, &data_set(&[1.0; MANY]), Form::Shortest).err(),
         Some(refusal(8, 0))
     );
 }
@@ -267,7 +271,7 @@ fn checked_reading() {
     assert_eq!(read_checked(&other, &data).err(), Some(refusal(13, last)));
     assert_eq!(frame.read_checked(&other, &data), Err(refusal(13, last)));
     assert_eq!(frame.read_checked(&other[..last + 7], &data), Err(refusal(1, last)));
-    assert_eq!(frame.read_checked(&other, &data_set(&[1.0; 25])), Err(refusal(8, 0)));
+    assert_eq!(frame.read_checked(&other, &data_set(&[1.0; MANY])), Err(refusal(8, 0)));
     assert_eq!((frame.pdu(), frame.values()), (all.pdu(), all.values()));
 
     // Document 01's frame, read with no channel.
@@ -313,7 +317,7 @@ fn granted_reading() {
     assert_eq!(none.sv_id(1), all.sv_id(1));
 
     // What was read is written again as a frame of the shown channels.
-    let mut again = [0; sys::MAX_FRAME];
+    let mut again = [0; MAX_FRAME];
     let size = frame.write(Form::Shortest, &mut again).unwrap();
     let strict = read_strict(&again[..size], &data_set(&[0.5, 4.0]), Form::Shortest).unwrap();
     assert_eq!(strict.pdu(), shown);
@@ -324,7 +328,7 @@ fn granted_reading() {
     let last = octets.len() - 13 - 8;
     assert_eq!(frame.read_granted(&octets[..last + 7], &data, 1), Err(refusal(1, last)));
     assert_eq!(read_frame(&octets[..last + 7], &data).err(), Some(refusal(1, last)));
-    assert_eq!(frame.read_granted(&octets, &data_set(&[1.0; 25]), 0), Err(refusal(8, 0)));
+    assert_eq!(frame.read_granted(&octets, &data_set(&[1.0; MANY]), 0), Err(refusal(8, 0)));
     assert_eq!(frame.pdu(), shown);
     frame.read(&octets, &data).unwrap();
     assert_eq!((frame.channels(), frame.counts()), (4, &counts[..]));
@@ -365,17 +369,18 @@ fn reading_by_sets() {
 #[test]
 fn store_of_data_sets() {
     let mut sets = DataSets::default();
-    for conf_rev in 1..=32 {
-        let set = data_set(&vec![0.5; conf_rev % 25]);
+    for conf_rev in 1..=MAX_SETS {
+        let set = data_set(&vec![0.5; conf_rev % MANY]);
         assert_eq!(sets.add(10 * conf_rev as u32, &set), Ok(conf_rev));
         assert_eq!((sets.len(), sets.get(10 * conf_rev as u32)), (conf_rev, Some(set)));
     }
     let full = sets.clone();
-    for conf_rev in [0, 10, 320, 330] {
+    let last = 10 * MAX_SETS as u32;
+    for conf_rev in [0, 10, last, last + 10] {
         assert_eq!(sets.add(conf_rev, &data_set(&[1.0])), Err(refusal(14, 0)));
-        assert_eq!(sets.add(conf_rev, &data_set(&[1.0; 25])), Err(refusal(8, 0)));
+        assert_eq!(sets.add(conf_rev, &data_set(&[1.0; MANY])), Err(refusal(8, 0)));
     }
-    assert_eq!((sets.get(0), sets.get(330), &sets), (None, None, &full));
+    assert_eq!((sets.get(0), sets.get(last + 10), &sets), (None, None, &full));
     assert_eq!(sets.get(10), Some(data_set(&[0.5])));
 }
 
@@ -476,21 +481,17 @@ fn scale_factors_that_differ() {
     // 9 before 11, 11 before 10.
     pdu.sav_asdu[1].all_data[1].value = f32::INFINITY;
     assert_eq!(refused((header.clone(), pdu.clone())), Some(11));
-    pdu.security = Some(vec![0; 65]);
+    pdu.security = Some(vec![0; MAX_SECURITY + 1]);
     assert_eq!(refused((header.clone(), pdu.clone())), Some(9));
     pdu.security = None;
-    let large = |pdu: &mut SavPdu| {
-        for asdu in &mut pdu.sav_asdu {
-            asdu.all_data = samples(&[0.0; 24], 1.0);
-        }
-        pdu.sav_asdu[1].all_data[23].scale_factor = 2.0;
-        pdu.sav_asdu
-            .extend([pdu.sav_asdu.clone(), pdu.sav_asdu.clone(), pdu.sav_asdu.clone()].concat());
-        pdu.no_asdu = 8;
-    };
-    large(&mut pdu);
+    for asdu in &mut pdu.sav_asdu {
+        asdu.all_data = samples(&[0.0; MAX_CHANNELS], 1.0);
+    }
+    pdu.sav_asdu[1].all_data[MAX_CHANNELS - 1].scale_factor = 2.0;
+    pdu.sav_asdu = pdu.sav_asdu.iter().cycle().take(MAX_ASDUS).cloned().collect();
+    pdu.no_asdu = MAX_ASDUS as u16;
     assert_eq!(refused((header.clone(), pdu.clone())), Some(10));
-    pdu.sav_asdu[7].all_data[0].value = 1e30;
+    pdu.sav_asdu[MAX_ASDUS - 1].all_data[0].value = 1e30;
     assert_eq!(refused((header, pdu)), Some(11));
 }
 
@@ -514,9 +515,9 @@ fn refusals_of_writing() {
             pdu.no_asdu = n;
         }
     };
-    assert_eq!(changed(asdus(8)), None);
-    assert_eq!(changed(asdus(9)), Some(9));
-    assert_eq!(changed(asdus(10)), Some(9));
+    assert_eq!(changed(asdus(MAX_ASDUS as u16)), None);
+    assert_eq!(changed(asdus(MAX_ASDUS as u16 + 1)), Some(9));
+    assert_eq!(changed(asdus(MAX_ASDUS as u16 + 2)), Some(9));
     assert_eq!(changed(asdus(65_535)), Some(9));
     let channels = |n: usize| {
         move |_: &mut EthernetHeader, pdu: &mut SavPdu| {
@@ -524,29 +525,32 @@ fn refusals_of_writing() {
         }
     };
     assert_eq!(changed(channels(0)), None);
-    assert_eq!(changed(channels(24)), None);
-    assert_eq!(changed(channels(25)), Some(8));
+    assert_eq!(changed(channels(MAX_CHANNELS)), None);
+    assert_eq!(changed(channels(MANY)), Some(8));
     assert_eq!(changed(channels(1000)), Some(8));
     let text = |n: usize| {
         move |_: &mut EthernetHeader, pdu: &mut SavPdu| pdu.sav_asdu[0].msv_id = "x".repeat(n)
     };
-    assert_eq!(changed(text(127)), None);
-    assert_eq!(changed(text(128)), Some(9));
+    assert_eq!(changed(text(MAX_TEXT)), None);
+    assert_eq!(changed(text(MAX_TEXT + 1)), Some(9));
     assert_eq!(changed(text(70_000)), Some(9));
-    let data_set = |_: &mut EthernetHeader, pdu: &mut SavPdu| {
-        pdu.sav_asdu[0].dat_set = Some("x".repeat(128));
+    let data_set = |n: usize| {
+        move |_: &mut EthernetHeader, pdu: &mut SavPdu| {
+            pdu.sav_asdu[0].dat_set = Some("x".repeat(n))
+        }
     };
-    assert_eq!(changed(data_set), Some(9));
-    assert_eq!(changed(|_, pdu| pdu.security = Some(vec![0; 64])), None);
-    assert_eq!(changed(|_, pdu| pdu.security = Some(vec![0; 65])), Some(9));
+    assert_eq!(changed(data_set(MAX_TEXT)), None);
+    assert_eq!(changed(data_set(MAX_TEXT + 1)), Some(9));
+    assert_eq!(changed(|_, pdu| pdu.security = Some(vec![0; MAX_SECURITY])), None);
+    assert_eq!(changed(|_, pdu| pdu.security = Some(vec![0; MAX_SECURITY + 1])), Some(9));
     let differ = |_: &mut EthernetHeader, pdu: &mut SavPdu| {
         pdu.sav_asdu.push(SavAsdu::default());
         pdu.no_asdu = 2;
     };
     assert_eq!(changed(differ), Some(9));
     let long = |header: &mut EthernetHeader, pdu: &mut SavPdu| {
-        channels(24)(header, pdu);
-        asdus(8)(header, pdu);
+        channels(MAX_CHANNELS)(header, pdu);
+        asdus(MAX_ASDUS as u16)(header, pdu);
     };
     assert_eq!(changed(long), Some(10));
     assert_eq!(changed(|_, pdu| pdu.sav_asdu[0].all_data[0].value = 1e30), Some(11));

@@ -5,17 +5,17 @@
 mod arrays;
 mod environment;
 mod made;
+mod tally;
 mod walk;
 
-use arrays::{frames, Arrays};
-use environment::number;
-use hopsickle::sys::{read_checked, ASDU_NUMBERS, HEAD_NUMBERS};
+use arrays::Arrays;
+use hopsickle::sys::{read_checked, ASDU_NUMBERS, HEAD_NUMBERS, MAX_ASDUS, MAX_CHANNELS};
 use made::{damage, framed, written};
 use oracle::frame::length_octets;
 use oracle::generate::Random;
 use oracle::hex::hex;
-use std::collections::BTreeMap;
-use walk::{lent, walk, Length};
+use tally::{lent_for, Frames, Tally};
+use walk::{walk, Length};
 
 /// The number and the arrays that checked reading answers.
 fn checked(frame: &[u8], channels: usize, before: &Arrays) -> (usize, Arrays) {
@@ -100,7 +100,7 @@ fn other_refusals_before_lengths() {
         (whole[..76].to_vec(), 1, 69),
         (with(56, 0x84), 2, 55),
         (with(59, 0x04), 3, 60),
-        (with(26, 0x09), 4, 26),
+        (with(26, MAX_ASDUS as u8 + 1), 4, 26),
         (long_identity, 5, 79),
     ];
     for before in [Arrays::large(), Arrays::of(0, 0, 0, 0)] {
@@ -113,7 +113,7 @@ fn other_refusals_before_lengths() {
             assert_eq!(checked(&whole[..cut], 1, &before), ordinary, "{cut}");
         }
         for frame in [&whole[..], &whole[..50], &[]] {
-            for channels in [25, 26, 1 << 61, usize::MAX] {
+            for channels in [MAX_CHANNELS + 1, MAX_CHANNELS + 2, 1 << 61, usize::MAX] {
                 assert_eq!(checked(frame, channels, &before), refusal(8, 0, &before));
             }
         }
@@ -124,7 +124,7 @@ fn other_refusals_before_lengths() {
 #[test]
 fn every_number_of_channels() {
     let before = Arrays::large();
-    for channels in 0..=24 {
+    for channels in 0..=MAX_CHANNELS {
         for (number, form) in (0..600).flat_map(|number| [0, 1, 2, 3].map(|form| (number, form))) {
             let frame = made(channels, &[&length_octets(number, form)]);
             let owed = if number == 8 * channels {
@@ -155,7 +155,7 @@ fn other_length(random: &mut Random, channels: usize) -> usize {
         3 => right + 1,
         4 => right + (random.among(1, 0xff) << 8),
         5 => right + (random.among(1, 0xff) << 16),
-        6 => 8 * random.among(0, 24),
+        6 => 8 * random.among(0, MAX_CHANNELS),
         _ => random.below(1 << 24),
     }
 }
@@ -192,13 +192,13 @@ struct Case {
 
 /// A frame that the library writes or the generator makes, with its lengths after 87 altered, cut or
 /// with an octet replaced, or none of these.
-fn case(random: &mut Random, generated: &mut impl Iterator<Item = (usize, Vec<u8>)>) -> Case {
+fn case(random: &mut Random, generated: &mut Frames) -> Case {
     let of_generator = if random.percent(20) { generated.next() } else { None };
     let (made_for, mut frame) = of_generator.unwrap_or_else(|| {
-        let channels = random.among(0, 24);
+        let channels = random.among(0, MAX_CHANNELS);
         (channels, written(random, channels, |_, _| ()))
     });
-    let channels = if random.percent(15) { random.among(0, 25) } else { made_for };
+    let channels = if random.percent(15) { random.among(0, MAX_CHANNELS + 1) } else { made_for };
     let (lengths, _) = walk(&frame, channels);
     if !lengths.is_empty() && random.percent(60) {
         alter_lengths(random, channels, &mut frame, &lengths);
@@ -250,7 +250,7 @@ fn held(case: &Case, before: &Arrays) -> (usize, [(&'static str, bool); 17]) {
         ("accepted, several ASDUs", accepted && 1 < lengths.len()),
         ("accepted, no ASDU", accepted && lengths.is_empty()),
         ("accepted, no channel", accepted && !lengths.is_empty() && *channels == 0),
-        ("accepted, 16 to 24 channels", accepted && !lengths.is_empty() && 16 <= *channels),
+        ("accepted, 16 channels or more", accepted && !lengths.is_empty() && 16 <= *channels),
         ("accepted, other channels", accepted && !lengths.is_empty() && channels != made_for),
         ("accepted, exactly enough room", accepted && before.numbers.len() == numbers),
         ("accepted, strictly in the shortest form", strict[0].0 == 0),
@@ -262,32 +262,11 @@ fn held(case: &Case, before: &Arrays) -> (usize, [(&'static str, bool); 17]) {
 
 #[test]
 fn generated_frames() {
-    let seed = number("HOPSICKLE_SEED", 1);
-    let cases = number("HOPSICKLE_CASES", 20_000) as usize;
-    let mut random = Random(!seed);
-    let mut generated = frames(Random(seed));
-    let mut answers = [0; 14];
-    let mut classes: BTreeMap<&str, usize> = BTreeMap::new();
-    for _ in 0..cases {
-        let case = case(&mut random, &mut generated);
-        let (lengths, refused) = walk(&case.frame, case.channels);
-        let before = lent(&mut random, if refused { 0 } else { lengths.len() }, case.channels);
-        let (number, its_classes) = held(&case, &before);
-        answers[number] += 1;
-        for (class, is) in its_classes {
-            *classes.entry(class).or_default() += usize::from(is);
-        }
-    }
-    println!("frames by their answer: {answers:?}");
-    for (class, count) in &classes {
-        println!("{class}: {count}");
-    }
-    assert!(cases / 10 <= answers[0] && cases / 10 <= answers[13], "{answers:?}");
-    let some = (cases / 2000).max(1);
-    for number in [1, 2, 3, 4, 5, 7, 8] {
-        assert!(some <= answers[number], "{number}: {answers:?}");
-    }
-    for (class, count) in classes {
-        assert!(some <= count, "{class}: {count}");
-    }
+    let tally = Tally::of(13, |random, generated| {
+        let case = case(random, generated);
+        let before = lent_for(random, &case.frame, case.channels);
+        held(&case, &before)
+    });
+    tally.print();
+    tally.hold(13, &[1, 2, 3, 4, 5, 7, 8], 2000);
 }

@@ -6,17 +6,20 @@
 mod arrays;
 mod environment;
 mod made;
+mod tally;
 mod walk;
 
-use arrays::{frames, Arrays};
+use arrays::Arrays;
 use environment::number;
-use hopsickle::sys::{self, MAX_CHANNELS, SET_NUMBERS, SET_SCALES};
+use hopsickle::sys::{
+    self, HEAD_NUMBERS, MAX_ASDUS, MAX_CHANNELS, MAX_SETS, SET_NUMBERS, SET_SCALES,
+};
 use made::{damage, framed, written};
 use oracle::frame::length_octets;
 use oracle::generate::Random;
 use oracle::hex::hex;
-use std::collections::BTreeMap;
-use walk::{lent, walk, Walk};
+use tally::{lent_for, Frames, Tally};
+use walk::Walk;
 
 /// Scale factors, equal where all their bits are.
 #[derive(Clone, Debug)]
@@ -34,6 +37,9 @@ impl PartialEq for Scales {
 
 /// Elements after each array of fixed length, which no call may write.
 const BEYOND: usize = 3;
+
+/// More channels than there can be.
+const MANY: usize = MAX_CHANNELS + 1;
 
 /// A store in its two arrays.
 #[derive(Clone, PartialEq, Debug)]
@@ -67,20 +73,20 @@ impl Store {
         (sys::sets_add(sets, set_scales, conf_rev, scales, &mut held), held)
     }
 
-    /// The sets that it holds: at most 32, whatever the first number is.
+    /// The sets that it holds: at most `MAX_SETS`, whatever the first number is.
     fn sets(&self) -> Vec<Set> {
-        let numbers = self.numbers[1..].chunks(2);
-        let sets = numbers.zip(self.scales.0.chunks(24)).take(32.min(self.numbers[0] as usize));
+        let sets = self.numbers[1..].chunks(2).zip(self.scales.0.chunks(MAX_CHANNELS));
+        let sets = sets.take(MAX_SETS.min(self.numbers[0] as usize));
         sets.map(|(numbers, scales)| (numbers[0], numbers[1] as usize, scales.to_vec())).collect()
     }
 }
 
-/// confRev, channels, and 24 scale factors, zero past the channels.
+/// confRev, channels, and `MAX_CHANNELS` scale factors, zero past the channels.
 type Set = (u32, usize, Vec<f32>);
 
 fn set(conf_rev: u32, scales: &[f32]) -> Set {
     let mut all = scales.to_vec();
-    all.resize(24, 0.0);
+    all.resize(MAX_CHANNELS, 0.0);
     (conf_rev, scales.len(), all)
 }
 
@@ -93,10 +99,10 @@ fn set_of(conf_rev: u32, channels: usize) -> Set {
 
 /// What an addition to a list of sets answers: the number, and the list after it.
 fn added(sets: &[Set], conf_rev: u32, scales: &[f32]) -> (usize, Vec<Set>) {
-    if 24 < scales.len() {
+    if MAX_CHANNELS < scales.len() {
         return (8, sets.to_vec());
     }
-    if sets.iter().any(|set| conf_rev <= set.0) || 32 <= sets.len() {
+    if sets.iter().any(|set| conf_rev <= set.0) || MAX_SETS <= sets.len() {
         return (14, sets.to_vec());
     }
     (0, [sets, &[set(conf_rev, scales)]].concat())
@@ -112,7 +118,7 @@ fn add(store: &mut Store, conf_rev: u32, scales: &[f32]) -> usize {
         let last = held - 1;
         owed.numbers[0] = held as u32;
         owed.numbers[1 + 2 * last..][..2].copy_from_slice(&[conf_rev, scales.len() as u32]);
-        owed.scales.0[24 * last..][..24].copy_from_slice(&sets[last].2);
+        owed.scales.0[MAX_CHANNELS * last..][..MAX_CHANNELS].copy_from_slice(&sets[last].2);
     }
     let before = store.clone();
     assert_eq!(store.add(conf_rev, scales), (number, held), "{conf_rev} {scales:?} {before:?}");
@@ -196,7 +202,7 @@ fn owed(frame: &[u8], sets: &[Set], before: &Lent) -> (usize, Lent) {
         return before.refused(16, 0);
     }
     after.channels = *channels;
-    after.scales.0[..24].copy_from_slice(scales);
+    after.scales.0[..MAX_CHANNELS].copy_from_slice(scales);
     (0, after)
 }
 
@@ -225,13 +231,13 @@ fn both() -> [Lent; 2] {
 fn additions() {
     let mut store = Store::empty();
     // The first can be 0, and the last 2^32 - 1.
-    let conf_revs = (0..31).map(|i| i * i * 1000).chain([u32::MAX]);
+    let conf_revs = (0..MAX_SETS as u32 - 1).map(|i| i * i * 1000).chain([u32::MAX]);
     for (i, conf_rev) in conf_revs.enumerate() {
-        let (_, channels, scales) = set_of(conf_rev, i % 25);
+        let (_, channels, scales) = set_of(conf_rev, i % MANY);
         assert_eq!(add(&mut store, conf_rev, &scales[..channels]), 0, "{i}");
         assert_eq!(store.sets()[i], set_of(conf_rev, channels));
     }
-    assert_eq!(store.numbers[0], 32);
+    assert_eq!(store.numbers[0], MAX_SETS as u32);
     let revs: Vec<u32> = store.sets().iter().map(|set| set.0).collect();
     assert!(revs.windows(2).all(|pair| pair[0] < pair[1]), "{revs:?}");
 }
@@ -240,40 +246,42 @@ fn additions() {
 fn additions_that_are_not_higher() {
     let mut store = Store::of(&[set_of(5, 2), set_of(300, 1)]);
     for conf_rev in [300, 299, 44, 6, 5, 4, 1, 0] {
-        for channels in [0, 1, 2, 24] {
+        for channels in [0, 1, 2, MAX_CHANNELS] {
             assert_eq!(add(&mut store, conf_rev, &vec![0.5; channels]), 14, "{conf_rev}");
         }
-        for channels in [25, 26, 1000] {
+        for channels in [MANY, MANY + 1, 1000] {
             assert_eq!(add(&mut store, conf_rev, &vec![0.5; channels]), 8, "{conf_rev}");
         }
     }
     assert_eq!(store, Store::of(&[set_of(5, 2), set_of(300, 1)]));
-    assert_eq!(add(&mut store, 400, &[0.5; 25]), 8);
+    assert_eq!(add(&mut store, 400, &[0.5; MANY]), 8);
     assert_eq!(add(&mut store, 301, &[0.5]), 0);
     let mut store = Store::of(&[set_of(u32::MAX, 2)]);
     assert_eq!(add(&mut store, 0, &[0.5]), 14);
 }
 
 #[test]
-fn the_thirty_third() {
-    let sets: Vec<Set> = (1..=32).map(|i| set_of(10 * i, i as usize % 25)).collect();
+fn more_sets_than_a_store_holds() {
+    const LAST: u32 = 10 * MAX_SETS as u32;
+    let channels = |i: usize| i % MANY;
+    let sets: Vec<Set> = (1..=MAX_SETS).map(|i| set_of(10 * i as u32, channels(i))).collect();
     let full = Store::of(&sets);
     let mut store = full.clone();
-    for conf_rev in [321, 330, u32::MAX, 320, 10, 15, 0] {
+    for conf_rev in [LAST + 1, LAST + 10, u32::MAX, LAST, 10, 15, 0] {
         assert_eq!(add(&mut store, conf_rev, &[0.5]), 14, "{conf_rev}");
         assert_eq!(add(&mut store, conf_rev, &[]), 14, "{conf_rev}");
-        assert_eq!(add(&mut store, conf_rev, &[0.5; 25]), 8, "{conf_rev}");
+        assert_eq!(add(&mut store, conf_rev, &[0.5; MANY]), 8, "{conf_rev}");
         assert_eq!(store, full, "{conf_rev}");
     }
-    for i in 1..=32 {
+    for i in 1..=MAX_SETS {
         let before = Lent::of(Arrays::large());
-        let frame = made(i as usize % 25, &[10 * i]);
+        let frame = made(channels(i), &[10 * i as u32]);
         let (number, after) = answer(&frame, &store, &before);
-        assert_eq!((number, after.channels), (0, i as usize % 25), "{i}");
-        assert_eq!(after.scales.0[..24], sets[i as usize - 1].2, "{i}");
+        assert_eq!((number, after.channels), (0, channels(i)), "{i}");
+        assert_eq!(after.scales.0[..MAX_CHANNELS], sets[i - 1].2, "{i}");
         assert_eq!(read(&frame, &store, &before), (0, 0), "{i}");
     }
-    assert_eq!(read(&made(1, &[330]), &store, &Lent::of(Arrays::large())), (15, 0));
+    assert_eq!(read(&made(1, &[LAST + 10]), &store, &Lent::of(Arrays::large())), (15, 0));
 }
 
 // ---- the order of refusals
@@ -313,7 +321,7 @@ fn up_to_the_first_conf_rev() {
         (with(38, 0x84), 2, 37),
         (with(38, 0x06), 3, 39),
         (with(35, 0x04), 3, 36),
-        (with(26, 0x09), 4, 26),
+        (with(26, MAX_ASDUS as u8 + 1), 4, 26),
     ];
     for store in [Store::empty(), Store::of(&[set_of(7, 1)]), Store::of(&[set_of(8, 1)])] {
         for before in both() {
@@ -346,7 +354,7 @@ fn cut_after_the_first_conf_rev() {
     }
     // A set of more channels than the frame has samples for: six are whole, the ASDU that follows read
     // as samples.
-    let store = Store::of(&[set_of(7, 24)]);
+    let store = Store::of(&[set_of(7, MAX_CHANNELS)]);
     assert_eq!(read(&whole, &store, &Lent::of(Arrays::large())), (1, 93));
 }
 
@@ -409,7 +417,7 @@ fn the_set_of_the_conf_rev() {
         assert_eq!(after.0, if room { 0 } else { 7 }, "{rev}");
         if room {
             assert_eq!(after.1.channels, channels, "{rev}");
-            assert_eq!(after.1.scales.0[..24], set_of(rev, channels).2, "{rev}");
+            assert_eq!(after.1.scales.0[..MAX_CHANNELS], set_of(rev, channels).2, "{rev}");
         }
         read(&made(channels, &[rev, rev]), &store, &before);
         assert_eq!(read(&made(1, &[rev ^ 2]), &store, &before), (15, 0), "{rev}");
@@ -423,16 +431,17 @@ fn stores_of_any_content() {
     let large = Lent::of(Arrays::large());
     let frame = made(1, &[7]);
     let channels = |frame: &[u8], store: &Store| answer(frame, store, &large).1.channels;
-    let mut store = Store::of(&(0..32).map(|i| set_of(100 + i, 1)).collect::<Vec<_>>());
-    // Above 32 sets are said to be held: 32 are, and the elements after them are no set.
-    for held in [33, 34, 64, 255, 256, u32::MAX] {
+    const MOST: u32 = MAX_SETS as u32;
+    let mut store = Store::of(&(0..MOST).map(|i| set_of(100 + i, 1)).collect::<Vec<_>>());
+    // Above `MAX_SETS` are said to be held: so many are, and the elements after them are no set.
+    for held in [MOST + 1, MOST + 2, 2 * MOST, 255, 256, u32::MAX] {
         store.numbers[0] = held;
-        assert_eq!(read(&made(1, &[131]), &store, &large), (0, 0), "{held}");
+        assert_eq!(read(&made(1, &[100 + MOST - 1]), &store, &large), (0, 0), "{held}");
         assert_eq!(read(&frame, &store, &large), (15, 0), "{held}");
-        store.numbers[65..67].copy_from_slice(&[7, 1]);
+        store.numbers[SET_NUMBERS..][..2].copy_from_slice(&[7, 1]);
         assert_eq!(read(&frame, &store, &large), (15, 0), "{held}");
         assert_eq!(add(&mut store, 1000, &[0.5]), 14, "{held}");
-        assert_eq!(add(&mut store, 1000, &[0.5; 25]), 8, "{held}");
+        assert_eq!(add(&mut store, 1000, &[0.5; MANY]), 8, "{held}");
     }
     // A set past those held isn't found, and no addition looks at it.
     let mut store = Store::of(&[set_of(5, 1), set_of(7, 1)]);
@@ -442,9 +451,9 @@ fn stores_of_any_content() {
     store.numbers[0] = 0;
     assert_eq!(read(&made(1, &[5]), &store, &large), (15, 0));
     assert_eq!(add(&mut store, 0, &[0.5]), 0);
-    // More channels than 24: refused 8 for the frames of that set, after its confRev.
+    // More channels than there can be: refused 8 for the frames of that set, after its confRev.
     let mut store = Store::of(&[set_of(5, 1), set_of(7, 1)]);
-    for said in [25, 26, 256, 257, 1 << 29, u32::MAX] {
+    for said in [MANY as u32, MANY as u32 + 1, 256, 257, 1 << 29, u32::MAX] {
         store.numbers[4] = said;
         for before in both() {
             for frame in [&frame[..], &frame[..40], &made(1, &[7, 5])] {
@@ -492,7 +501,7 @@ fn channels_near(random: &mut Random, channels: usize) -> usize {
     if random.percent(80) {
         channels
     } else {
-        random.among(0, 24)
+        random.among(0, MAX_CHANNELS)
     }
 }
 
@@ -505,7 +514,7 @@ fn store_by_additions(
     answers: &mut [usize; 15],
 ) -> Store {
     let mut store = Store::empty();
-    let most = random.pick(&[0, 2, 8, 40]);
+    let most = random.pick(&[0, 2, 8, MAX_SETS + 8]);
     let (lower, higher) = (random.among(0, most), random.among(0, most));
     let step = random.pick(&[1, 1, 3, 300]);
     let first = conf_rev.saturating_sub((lower * step) as u32);
@@ -514,11 +523,14 @@ fn store_by_additions(
     let above = (0..higher).map(|i| conf_rev.saturating_add((1 + i * step) as u32));
     for rev in below.chain(own).chain(above) {
         if random.percent(10) {
-            let (other, channels) = (near(random, rev), random.among(0, 26));
+            let (other, channels) = (near(random, rev), random.among(0, MANY + 1));
             answers[add(&mut store, other, &scales(random, channels))] += 1;
         }
-        let channels =
-            if rev == conf_rev { channels_near(random, channels) } else { random.among(0, 24) };
+        let channels = if rev == conf_rev {
+            channels_near(random, channels)
+        } else {
+            random.among(0, MAX_CHANNELS)
+        };
         answers[add(&mut store, rev, &scales(random, channels))] += 1;
     }
     store
@@ -530,41 +542,38 @@ fn store_of_any_content(random: &mut Random, conf_rev: u32, channels: usize) -> 
     for number in &mut store.numbers {
         *number = match random.below(3) {
             0 => near(random, conf_rev),
-            1 => random.among(0, 40) as u32,
+            1 => random.among(0, MAX_SETS + 8) as u32,
             _ => random.draw() as u32,
         };
     }
     store.numbers[0] = match random.below(8) {
         0 => random.draw() as u32,
-        1..=3 => random.among(32, 34) as u32,
-        _ => random.among(0, 32) as u32,
+        1..=3 => random.among(MAX_SETS, MAX_SETS + 2) as u32,
+        _ => random.among(0, MAX_SETS) as u32,
     };
     if random.percent(90) {
-        let i = if random.percent(20) { 31 } else { random.below(32) };
+        let i = if random.percent(20) { MAX_SETS - 1 } else { random.below(MAX_SETS) };
         store.numbers[1 + 2 * i] = conf_rev;
         store.numbers[2 + 2 * i] = match random.below(8) {
-            0 => random.pick(&[25, 26, 256, u32::MAX]),
+            0 => random.pick(&[MANY as u32, MANY as u32 + 1, 256, u32::MAX]),
             _ => channels_near(random, channels) as u32,
         };
     }
     store.scales = Scales(scales(random, SET_SCALES + BEYOND));
-    let (other, channels) = (near(random, conf_rev), random.among(0, 26));
+    let (other, channels) = (near(random, conf_rev), random.among(0, MANY + 1));
     add(&mut store, other, &scales(random, channels));
     store
 }
 
 /// A frame that the library writes, its later ASDUs with the confRev of the first or others, or one that
 /// the generator makes; cut, with an octet replaced, or neither. And the channels that it was made for.
-fn any_frame(
-    random: &mut Random,
-    generated: &mut impl Iterator<Item = (usize, Vec<u8>)>,
-) -> (usize, Vec<u8>) {
+fn any_frame(random: &mut Random, generated: &mut Frames) -> (usize, Vec<u8>) {
     let of_generator = if random.percent(25) { generated.next() } else { None };
     let (channels, mut frame) = of_generator.unwrap_or_else(|| {
-        let channels = random.among(0, 24);
-        let mut revs = [random.draw() as u32 >> random.below(32); 8];
+        let channels = random.among(0, MAX_CHANNELS);
+        let mut revs = [random.draw() as u32 >> random.below(32); MAX_ASDUS];
         let share = random.pick(&[0, 0, 0, 30]);
-        for i in 1..8 {
+        for i in 1..MAX_ASDUS {
             if random.percent(share) {
                 revs[i] = near(random, revs[0]);
             }
@@ -582,11 +591,7 @@ struct Case {
     by_additions: bool,
 }
 
-fn case(
-    random: &mut Random,
-    generated: &mut impl Iterator<Item = (usize, Vec<u8>)>,
-    answers: &mut [usize; 15],
-) -> Case {
+fn case(random: &mut Random, generated: &mut Frames, answers: &mut [usize; 15]) -> Case {
     let (made_for, frame) = any_frame(random, generated);
     let first = first_rev(&frame).flatten().unwrap_or(random.draw() as u32);
     let last = conf_revs(&frame, made_for).last().copied();
@@ -625,23 +630,23 @@ fn held(case: &Case, before: &Arrays) -> (usize, [(&'static str, bool); 24]) {
         ("8, where the frame is refused later", number == 8 && ordinary != 0),
         ("15, no ASDU", is_15 && no_asdu),
         ("15, no set is held", is_15 && sets.is_empty()),
-        ("15, 32 sets are held", is_15 && sets.len() == 32),
+        ("15, all sets that can be are held", is_15 && sets.len() == MAX_SETS),
         ("15, a later confRev has a set", is_15 && later),
-        ("15, a set past those held", is_15 && in_array && store.numbers[0] < 32),
+        ("15, a set past those held", is_15 && in_array && (store.numbers[0] as usize) < MAX_SETS),
         ("15, the frame is refused later", is_15 && !no_asdu && ordinary != 0),
-        ("15, arrays too short", is_15 && before.numbers.len() < 10),
+        ("15, arrays too short", is_15 && before.numbers.len() < HEAD_NUMBERS),
         ("16, the second ASDU", number == 16 && revs[0] != revs[1]),
         ("16, a later ASDU than the second", number == 16 && revs[0] == revs[1]),
         ("accepted, several ASDUs", accepted && 1 < revs.len()),
         ("accepted, the first set", accepted && place == Some(0)),
         ("accepted, the last set", accepted && place.is_some_and(|place| place + 1 == sets.len())),
-        ("accepted, set 32", accepted && place == Some(31)),
+        ("accepted, the last set of a full store", accepted && place == Some(MAX_SETS - 1)),
         (
             "accepted, of one confRev twice",
             accepted && 1 < sets.iter().filter(|set| its(set)).count(),
         ),
         ("accepted, no channel", accepted && channels == 0),
-        ("accepted, 16 to 24 channels", accepted && 16 <= channels),
+        ("accepted, 16 channels or more", accepted && 16 <= channels),
         ("accepted, other channels", accepted && channels != *made_for),
         ("accepted, a store of additions", accepted && *by_additions),
         ("accepted, a store of any content", accepted && !by_additions),
@@ -651,46 +656,26 @@ fn held(case: &Case, before: &Arrays) -> (usize, [(&'static str, bool); 24]) {
 
 #[test]
 fn generated_frames() {
-    let seed = number("HOPSICKLE_SEED", 1);
-    let cases = number("HOPSICKLE_CASES", 20_000) as usize;
-    let mut random = Random(!seed);
-    let mut generated = frames(Random(seed));
-    let (mut additions, mut answers) = ([0; 15], [0; 17]);
-    let mut classes: BTreeMap<&str, usize> = BTreeMap::new();
-    for _ in 0..cases {
-        let case = case(&mut random, &mut generated, &mut additions);
+    let mut additions = [0; 15];
+    let tally = Tally::of(16, |random, generated| {
+        let case = case(random, generated, &mut additions);
         let first = first_rev(&case.frame).flatten();
         let set = case.store.sets().into_iter().find(|set| Some(set.0) == first);
-        let channels = set.map_or(0, |set| set.1.min(24));
-        let (lengths, refused) = walk(&case.frame, channels);
-        let before = lent(&mut random, if refused { 0 } else { lengths.len() }, channels);
-        let (number, its_classes) = held(&case, &before);
-        answers[number] += 1;
-        for (class, is) in its_classes {
-            *classes.entry(class).or_default() += usize::from(is);
-        }
-    }
+        let channels = set.map_or(0, |set| set.1.min(MAX_CHANNELS));
+        let before = lent_for(random, &case.frame, channels);
+        held(&case, &before)
+    });
     println!("additions by their answer: {additions:?}");
-    println!("frames by their answer: {answers:?}");
-    for (class, count) in &classes {
-        println!("{class}: {count}");
-    }
+    tally.print();
     for number in [0, 8, 14] {
-        assert!(cases / 100 <= additions[number], "{number}: {additions:?}");
+        assert!(tally.cases / 100 <= additions[number], "{number}: {additions:?}");
     }
-    assert!(cases / 10 <= answers[0] && cases / 10 <= answers[15], "{answers:?}");
-    let some = (cases / 4000).max(1);
-    for number in [1, 2, 3, 4, 5, 7, 8, 16] {
-        assert!(some <= answers[number], "{number}: {answers:?}");
-    }
-    for (class, count) in classes {
-        assert!(some <= count, "{class}: {count}");
-    }
+    tally.hold(15, &[1, 2, 3, 4, 5, 7, 8, 16], 4000);
 }
 
 // ---- a history
 
-const ADDITIONS: usize = 40;
+const ADDITIONS: usize = MAX_SETS + 8;
 const HISTORIES: usize = 25;
 
 /// A frame and what is lent to read it.
@@ -719,7 +704,7 @@ fn history(random: &mut Random) -> Vec<(u32, usize)> {
     let mut last = random.below(1 << 12) as u32;
     let mut additions = vec![];
     for _ in 0..ADDITIONS {
-        let channels = if random.percent(3) { 25 } else { random.among(0, 24) };
+        let channels = if random.percent(3) { MANY } else { random.among(0, MAX_CHANNELS) };
         let conf_rev = match random.below(16) {
             0 => last,
             1 => last.saturating_sub(random.among(1, 600) as u32),
@@ -734,19 +719,19 @@ fn history(random: &mut Random) -> Vec<(u32, usize)> {
 #[test]
 fn later_additions_change_no_answer_but_15() {
     let mut random = Random(!number("HOPSICKLE_SEED", 1));
-    // Additions by their answer, and of those refused the ones where 32 sets are held; answers that
+    // Additions by their answer, and of those refused the ones where the store is full; answers that
     // stayed, by number, and answers 15 that became another.
     let (mut additions, mut full, mut stayed, mut found) = ([0; 15], 0, [0; 17], 0);
     for _ in 0..HISTORIES {
         let mut store = Store::empty();
         let mut all: Vec<Reading> = vec![];
         for (conf_rev, channels) in history(&mut random) {
-            all.extend(readings(&mut random, conf_rev, channels.min(24)));
+            all.extend(readings(&mut random, conf_rev, channels.min(MAX_CHANNELS)));
             let answers = |store: &Store| -> Vec<(usize, Lent)> {
                 all.iter().map(|(frame, before)| answer(frame, store, before)).collect()
             };
             let before = answers(&store);
-            full += usize::from(store.numbers[0] == 32);
+            full += usize::from(store.numbers[0] == MAX_SETS as u32);
             let number = add(&mut store, conf_rev, &scales(&mut random, channels));
             additions[number] += 1;
             for (old, new) in before.iter().zip(answers(&store)) {
@@ -765,7 +750,7 @@ fn later_additions_change_no_answer_but_15() {
         let revs: Vec<u32> = store.sets().iter().map(|set| set.0).collect();
         assert!(revs.windows(2).all(|pair| pair[0] < pair[1]), "{revs:?}");
     }
-    println!("additions by their answer: {additions:?}, where 32 sets are held: {full}");
+    println!("additions by their answer: {additions:?}, where the store is full: {full}");
     println!("answers that stayed: {stayed:?}, 15 that became another: {found}");
     for number in [0, 8, 14] {
         assert!(10 <= additions[number], "{additions:?}");

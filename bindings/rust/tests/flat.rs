@@ -1,55 +1,31 @@
-//! The functions of the library as C calls them: which elements of the lent arrays are written, and
-//! 7 for each array that is too short. The frames are generated ones.
+//! The functions of the library over slices: which elements of the lent arrays are written, and 7 for
+//! each array that is too short. The frames are generated ones.
 
 mod arrays;
+#[path = "../src/slices.rs"]
+#[allow(dead_code)]
+mod slices;
 
 use arrays::{frames, Arrays};
-use hopsickle::sys::*;
+use hopsickle::sys::{self, *};
 use oracle::generate::Random;
+
+/// The number that a call answers, and what it leaves in its last argument.
+fn answer(call: impl FnOnce(&mut usize) -> usize) -> (usize, usize) {
+    let mut left = 77;
+    let number = call(&mut left);
+    (number, left)
+}
 
 impl Arrays {
     fn decode(&mut self, frame: &[u8], at: usize, channels: usize) -> usize {
-        // SAFETY: each pointer is that of a slice of as many elements as are named after it.
-        unsafe {
-            hopsickle_decode(
-                frame.as_ptr(),
-                frame.len(),
-                at,
-                channels,
-                self.numbers.as_mut_ptr(),
-                self.numbers.len(),
-                self.octets.as_mut_ptr(),
-                self.octets.len(),
-                self.counts.as_mut_ptr(),
-                self.counts.len(),
-                self.qualities.as_mut_ptr(),
-                self.qualities.len(),
-                &mut self.place,
-            )
-        }
+        let Arrays { numbers, octets, counts, qualities, place } = self;
+        slices::decode(frame, at, channels, numbers, octets, counts, qualities, place)
     }
 
     fn write(&self, channels: usize, fixed: bool, frame: &mut [u8]) -> (usize, usize) {
-        let mut size = 77;
-        // SAFETY: as in `decode`.
-        let number = unsafe {
-            hopsickle_write(
-                self.numbers.as_ptr(),
-                self.numbers.len(),
-                self.octets.as_ptr(),
-                self.octets.len(),
-                channels,
-                fixed,
-                self.counts.as_ptr(),
-                self.counts.len(),
-                self.qualities.as_ptr(),
-                self.qualities.len(),
-                frame.as_mut_ptr(),
-                frame.len(),
-                &mut size,
-            )
-        };
-        (number, size)
+        let Arrays { numbers: n, octets: o, counts: c, qualities: q, .. } = self;
+        answer(|size| slices::write(n, o, channels, fixed, c, q, frame, size))
     }
 
     fn write_values(
@@ -59,63 +35,17 @@ impl Arrays {
         values: &[f32],
         frame: &mut [u8],
     ) -> (usize, usize) {
-        let mut size = 77;
-        // SAFETY: as in `decode`.
-        let number = unsafe {
-            hopsickle_write_values(
-                self.numbers.as_ptr(),
-                self.numbers.len(),
-                self.octets.as_ptr(),
-                self.octets.len(),
-                scales.as_ptr(),
-                scales.len(),
-                fixed,
-                values.as_ptr(),
-                values.len(),
-                self.qualities.as_ptr(),
-                self.qualities.len(),
-                frame.as_mut_ptr(),
-                frame.len(),
-                &mut size,
-            )
-        };
-        (number, size)
+        let Arrays { numbers: n, octets: o, qualities: q, .. } = self;
+        answer(|size| slices::write_values(n, o, scales, fixed, values, q, frame, size))
     }
 
     fn size(&self, channels: usize, fixed: bool) -> (usize, usize) {
-        let mut size = 77;
-        // SAFETY: as in `decode`.
-        let number = unsafe {
-            hopsickle_size(
-                self.numbers.as_ptr(),
-                self.numbers.len(),
-                self.octets.as_ptr(),
-                self.octets.len(),
-                channels,
-                fixed,
-                &mut size,
-            )
-        };
-        (number, size)
+        answer(|size| slices::size(&self.numbers, &self.octets, channels, fixed, size))
     }
 }
 
 fn values(scales: &[f32], no_asdu: u16, counts: &[i32], values: &mut [f32]) -> (usize, usize) {
-    let mut written = 77;
-    // SAFETY: as in `decode`.
-    let number = unsafe {
-        hopsickle_values(
-            scales.as_ptr(),
-            scales.len(),
-            no_asdu,
-            counts.as_ptr(),
-            counts.len(),
-            values.as_mut_ptr(),
-            values.len(),
-            &mut written,
-        )
-    };
-    (number, written)
+    answer(|written| slices::values(scales, no_asdu, counts, values, written))
 }
 
 #[test]
@@ -139,7 +69,7 @@ fn reading() {
             assert_eq!(after.octets[octets..], before.octets[octets..]);
             assert_eq!(after.counts[samples..], before.counts[samples..]);
             assert_eq!(after.qualities[samples..], before.qualities[samples..]);
-            assert!(after.qualities[..samples].iter().all(|word| *word < 1 << 13));
+            assert!(after.qualities[..samples].iter().all(|word| *word < QUALITY_LIMIT));
 
             // Exactly enough, and one element less.
             let enough = Arrays::enough(asdus, channels);
@@ -171,40 +101,31 @@ fn reading() {
 
 #[test]
 fn header() {
+    const NUMBERS: usize = HEADER_NUMBERS;
+    const OCTETS: usize = HEADER_OCTETS;
     let call = |frame: &[u8], numbers: &mut [u32], octets: &mut [u8]| {
-        let mut place = 77;
-        // SAFETY: as in `decode`.
-        let number = unsafe {
-            hopsickle_header(
-                frame.as_ptr(),
-                frame.len(),
-                numbers.as_mut_ptr(),
-                numbers.len(),
-                octets.as_mut_ptr(),
-                octets.len(),
-                &mut place,
-            )
-        };
-        (number, place)
+        answer(|place| slices::header(frame, numbers, octets, place))
     };
     for (channels, frame) in frames(Random(5)).take(2_000) {
-        let (mut numbers, mut octets) = ([9; 8], [9; 14]);
+        let before = ([9; NUMBERS + 2], [9; OCTETS + 2]);
+        let (mut numbers, mut octets) = before;
         let (number, place) = call(&frame, &mut numbers, &mut octets);
         if number != 0 {
-            assert_eq!((number, place, numbers, octets), (1, frame.len(), [9; 8], [9; 14]));
+            assert_eq!((number, place, (numbers, octets)), (1, frame.len(), before));
             assert_eq!(call(&frame, &mut [], &mut []), (1, frame.len()));
             continue;
         }
-        assert_eq!((&numbers[6..], &octets[12..]), (&[9; 2][..], &[9; 2][..]));
+        assert_eq!((&numbers[NUMBERS..], &octets[OCTETS..]), (&[9; 2][..], &[9; 2][..]));
         assert_eq!(place, if numbers[TAGGED] == 1 { 26 } else { 22 });
-        assert_eq!(octets[..12], frame[..12]);
-        assert_eq!(call(&frame, &mut numbers[..6], &mut octets[..12]), (0, place));
-        assert_eq!(call(&frame, &mut numbers[..5], &mut octets[..12]), (7, 0));
-        assert_eq!(call(&frame, &mut numbers[..6], &mut octets[..11]), (7, 0));
+        assert_eq!(octets[..OCTETS], frame[..OCTETS]);
+        let (numbers, octets) = (&mut numbers[..NUMBERS], &mut octets[..OCTETS]);
+        assert_eq!(call(&frame, numbers, octets), (0, place));
+        assert_eq!(call(&frame, &mut numbers[1..], octets), (7, 0));
+        assert_eq!(call(&frame, numbers, &mut octets[1..]), (7, 0));
 
         let mut read = Arrays::of(MAX_NUMBERS, MAX_OCTETS, MAX_SAMPLES, MAX_SAMPLES);
         if read.read(None, &frame, channels) == 0 {
-            assert_eq!((&read.numbers[..6], &read.octets[..12]), (&numbers[..6], &octets[..12]));
+            assert_eq!((&read.numbers[..NUMBERS], &read.octets[..OCTETS]), (&*numbers, &*octets));
         }
     }
 }
@@ -298,39 +219,41 @@ fn descriptions() {
     assert_eq!((at(ETHER_TYPE, 0x88b8), at(ETHER_TYPE, 0x1_88ba)), (9, 9));
     assert_eq!((at(LENGTH, u32::MAX), at(NO_ASDU, 0)), (0, 9));
     assert_eq!((at(NO_ASDU, 2), at(NO_ASDU, u32::MAX)), (7, 7));
-    assert_eq!((asdu(SV_ID_LENGTH, 127), asdu(SV_ID_LENGTH, 128)), (0, 9));
+    let (text, security) = (MAX_TEXT as u32, MAX_SECURITY as u32);
+    assert_eq!((asdu(SV_ID_LENGTH, text), asdu(SV_ID_LENGTH, text + 1)), (0, 9));
     assert_eq!((asdu(SMP_CNT, 65_535), asdu(SMP_CNT, 65_536)), (0, 9));
     assert_eq!((asdu(CONF_REV, u32::MAX), asdu(SMP_SYNCH, 256)), (0, 9));
     // What stands behind a mark of 0 isn't looked at.
-    assert_eq!((at(TPID, u32::MAX), at(TCI, u32::MAX), at(SECURITY_LENGTH, 65)), (0, 0, 0));
-    assert_eq!((asdu(DAT_SET_LENGTH, 128), asdu(SMP_RATE_VALUE, 65_536)), (0, 0));
-    assert_eq!(refused(&|one| one.qualities[1] = 8191), 0);
-    assert_eq!(refused(&|one| one.qualities[1] = 8192), 9);
+    assert_eq!(
+        (at(TPID, u32::MAX), at(TCI, u32::MAX), at(SECURITY_LENGTH, security + 1)),
+        (0, 0, 0)
+    );
+    assert_eq!((asdu(DAT_SET_LENGTH, text + 1), asdu(SMP_RATE_VALUE, 65_536)), (0, 0));
+    assert_eq!(refused(&|one| one.qualities[1] = QUALITY_LIMIT - 1), 0);
+    assert_eq!(refused(&|one| one.qualities[1] = QUALITY_LIMIT), 9);
 
     // 8, then 7 for the arrays, 9, 11, 10, 7 for the frame.
     let mut large = Arrays::of(MAX_NUMBERS, MAX_OCTETS, MAX_SAMPLES, MAX_SAMPLES);
     large.numbers.fill(0);
     large.qualities.fill(0);
-    large.numbers[NO_ASDU] = 8;
-    let infinite = [f32::INFINITY; 25 * 8];
+    large.numbers[NO_ASDU] = MAX_ASDUS as u32;
+    const MANY: usize = MAX_CHANNELS + 1;
+    let infinite = [f32::INFINITY; MANY * MAX_ASDUS];
     let number = |one: &Arrays, channels: usize| {
         let scales = vec![1.0; channels];
-        one.write_values(&scales, false, &infinite[..8 * channels], &mut []).0
+        one.write_values(&scales, false, &infinite[..MAX_ASDUS * channels], &mut []).0
     };
     let short = Arrays { octets: vec![], ..large.clone() };
-    assert_eq!((number(&short, 25), number(&short, 24), number(&large, 24)), (8, 7, 9));
+    assert_eq!((number(&short, MANY), number(&short, MAX_CHANNELS)), (8, 7));
+    assert_eq!(number(&large, MAX_CHANNELS), 9);
     large.numbers[ETHER_TYPE] = 0x88ba;
-    assert_eq!(
-        (number(&large, 24), large.write(24, false, &mut []).0, large.write(2, false, &mut []).0),
-        (11, 10, 7)
-    );
-    assert_eq!(
-        (large.size(24, false), large.size(25, false), large.size(2, false).0),
-        ((10, 0), (8, 0), 0)
-    );
+    let written = |channels: usize| large.write(channels, false, &mut []).0;
+    assert_eq!((number(&large, MAX_CHANNELS), written(MAX_CHANNELS), written(2)), (11, 10, 7));
+    let size = |channels: usize| large.size(channels, false);
+    assert_eq!((size(MAX_CHANNELS), size(MANY), size(2).0), ((10, 0), (8, 0), 0));
 
     let mut out = [0.0; 2];
-    assert_eq!(values(&[1.0; 25], 0, &[], &mut out), (8, 0));
+    assert_eq!(values(&[1.0; MANY], 0, &[], &mut out), (8, 0));
     assert_eq!(values(&[0.5, 2.0], 1, &[3, -4], &mut out), (0, 2));
     assert_eq!(out, [1.5, -8.0]);
     assert_eq!(values(&[], 65_535, &[], &mut []), (0, 0));

@@ -81,7 +81,7 @@ fn two_asdus() -> Vec<u8> {
         assert_eq!(frame.len(), start);
         for channel in 0..CHANNELS as i32 {
             let count = [100 + channel, -200 - channel][asdu];
-            let word = 0xffff_e000 + 16 * asdu as u32 + channel as u32;
+            let word = !(QUALITY_LIMIT - 1) + 16 * asdu as u32 + channel as u32;
             frame.extend(count.to_be_bytes());
             frame.extend(word.to_be_bytes());
         }
@@ -173,9 +173,11 @@ fn cut_inside_a_hidden_sample() {
 #[test]
 fn too_many_channels() {
     let frame = two_asdus();
-    for mask in [0, 1, 1 << 24, 0x00ff_ffff, 0x01ff_ffff, 0xfe00_0000, 0xffff_ffff] {
+    // Of the last channel and of one more alone, of all below them, and of all above.
+    let [last, more] = [1 << (MAX_CHANNELS - 1), 1 << MAX_CHANNELS];
+    for mask in [0, 1, last, more, more - 1, 2 * more - 1, !(2 * more - 1), u32::MAX] {
         for frame in [&frame[..], &frame[..100], &[]] {
-            for channels in [25, 26, 32, 33, usize::MAX] {
+            for channels in [MAX_CHANNELS + 1, MAX_CHANNELS + 2, 32, 33, usize::MAX] {
                 for before in [Arrays::large(), Arrays::of(0, 0, 0, 0)] {
                     let after = answer(frame, channels, mask, &before);
                     assert_eq!(after, (8, Arrays { place: 0, ..before }), "{mask:x}");
@@ -183,14 +185,14 @@ fn too_many_channels() {
             }
         }
     }
-    // 24 are read, here of one ASDU, and bit 23 shows the last.
+    // As many as there can be are read, here of one ASDU.
     let mut frame = two_asdus();
     frame[27] = 1;
-    frame.resize(SAMPLES[0] + 24 * 8, 0x11);
-    let last = answer(&frame, 24, 1 << 23, &Arrays::enough(1, 1));
+    frame.resize(SAMPLES[0] + MAX_CHANNELS * 8, 0x11);
+    let last = answer(&frame, MAX_CHANNELS, last, &Arrays::enough(1, 1));
     assert_eq!(
         (last.0, &last.1.counts[..], &last.1.qualities[..]),
-        (0, &[0x1111_1111][..], &[0x1111][..])
+        (0, &[0x1111_1111][..], &[0x1111_1111 % QUALITY_LIMIT][..])
     );
 }
 
@@ -252,7 +254,8 @@ fn hidden_octets_replaced() {
         if pairs <= answers.iter().sum() {
             break;
         }
-        let channels = if random.percent(10) { random.among(0, 25) } else { made_for };
+        let channels =
+            if random.percent(10) { random.among(0, MAX_CHANNELS + 1) } else { made_for };
         damage(&mut random, channels, &mut frame);
         let read = ordinary(&frame, channels);
         let asdus = if read.0 == 0 { read.1.numbers[NO_ASDU] as usize } else { 0 };

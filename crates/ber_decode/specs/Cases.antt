@@ -3,26 +3,25 @@ use Prim.Native.Nat.{ℕ, zero, suc, _+_, _-_, _*_, _^_, _<_, _≤_}
 use native.Mathlib.Omega.{arith}
 use native.Mathlib.Nat.{pow-le-pow-right, add-zero}
 use native.Mathlib.Numerals.{add-one}
-use mathlib.Core.Path.{_≡_, refl}
+use mathlib.Core.Path.{_≡_, refl, sym, ap, _∙_}
 use mathlib.Core.List.{List}
 use mathlib.Core.Bool.{Bool, true, false}
 use lib.ListN.{length, getD, take, drop}
-use lib.Dec.{leb, eqb, lit<}
+use lib.Dec.{leb, ltb, eqb, lit<}
 use borrow.Author.Tests.{le-leb, lt-leb, le-ltb, lt-ltb, ne-eqb, leb-true, leb-false}
-use Rattle.definition.specs.Frame.{and}
-use Rattle.definition.specs.Read.{Out, got, refused, beAt, headAt, numberAt, spanAt, hasAt}
+use Rattle.definition.specs.Frame.{and, Bytes}
+use Rattle.definition.specs.Read.{Out, got, refused, beAt, Head, headAt, numberAt, spanAt, hasAt, missingAt}
 use Rattle.definition.specs.Limits.{endsTooSoon, badLength, integerTooLong}
 use Rattle.ber_decode.specs.declared.Width.{Width}
 use Rattle.ber_decode.specs.declared.Width.the-variants as width
+use Rattle.ber_decode.specs.declared.Cursor.{Cursor}
+use Rattle.ber_decode.specs.declared.Head as code
+use Rattle.ber_decode.specs.declared.Head.the-variants as head
 use Rattle.ber_decode.specs.declared.Span.{Span}
 use Rattle.ber_decode.specs.declared.Span.the-variants as span
-use Rattle.ber_decode.specs.Told.{octetsOf, toldSpan, foundSpan}
+use Rattle.ber_decode.specs.Told.{widthOctets, toldHead, toldSpan, foundSpan}
 
 -- ---- numbers
-
--- what every octet is
-abbrev pub Bytes : List ℕ → Type 0
-Bytes s = (k : ℕ) → getD s k 0 < 256
 
 -- the number of n octets is below 256 ^ n
 pub be-lt : (s : List ℕ) → Bytes s → (at n : ℕ) → beAt s at n < 256 ^ n
@@ -58,10 +57,18 @@ filled-lt s at n w {v} {p} {q} h l m a b d =
     let e : v + (p - q) < 256 ^ w = rw (a, b, d) (fill-lt (be-lt s h at n) l) in
     omega (arith, pow-four {w = w} m)
 
-pub width-in : (w : Width) → (1 ≤ octetsOf w) × (octetsOf w ≤ 4)
+pub width-in : (w : Width) → (1 ≤ widthOctets w) × (widthOctets w ≤ 4)
 width-in width.One = omega arith
 width-in width.Two = omega arith
 width-in width.Four = omega arith
+
+-- two numbers are one way round or the other
+split : {P : Type 0} (a b : ℕ) → (a ≤ b → P) → (b < a → P) → P
+split {P} a b f g = go (leb a b) refl
+  where
+    go : (t : Bool) → leb a b ≡ t → P
+    go true e = f (leb-true a b e)
+    go false e = g (leb-false a b e)
 
 -- ---- a tag and its length
 
@@ -104,15 +111,60 @@ module _ (s : List ℕ) (at : ℕ) where
           let e : getD s (at + 1) 0 ≡ 128 → ⊥ = λ e. omega arith in
           simp (lt-leb, le-ltb, ne-eqb)
 
+-- the place after a tag and its length is inside, and the length has at most three octets
+module _ (s : List ℕ) (bytes : Bytes s) (at : ℕ) where
+  head-within : {h : Head} {end : ℕ} → headAt s at ≡ got h end → (end ≤ length s) × (h .len < 16777216)
+  head-within {h} {end} e =
+      split (length s) (at + 1) (λ a. no (head-none s at a)) (λ a.
+      split 128 (getD s (at + 1) 0) (λ b.
+      split (getD s (at + 1) 0) 128 (λ d. no (head-eighty s at a (omega arith))) (λ d.
+      split 132 (getD s (at + 1) 0) (λ f. no (head-above s at a f)) (λ f.
+      split (at + 2 + (getD s (at + 1) 0 - 128)) (length s)
+      (λ g. yes (head-long s at a d f g) (g, omega (arith, be-lt s bytes (at + 2) (getD s (at + 1) 0 - 128), pow-three {n = getD s (at + 1) 0 - 128} (omega arith))))
+      (λ g. no (head-cut s at a d f g)))))
+      (λ b. yes (head-short s at a b) (omega arith)))
+    where
+      no : {k p : ℕ} → headAt s at ≡ refused k p → (end ≤ length s) × (h .len < 16777216)
+      no f = let x = sym f ∙ e in let z : _≡_ {A = ℕ} 0 1 = cc in absurd (omega arith)
+
+      yes : {h′ : Head} {end′ : ℕ} → headAt s at ≡ got h′ end′ → (end′ ≤ length s) × (h′ .len < 16777216) → (end ≤ length s) × (h .len < 16777216)
+      yes {h′} {end′} f g =
+          let x : got h′ end′ ≡ got h end = sym f ∙ e in
+          let p : h′ ≡ h = cc in
+          let q : end′ ≡ end = cc in
+          rw (← p, ← q) g
+
+  -- of the answer of `head`
+  pub head-found : {x : code.Head} → toldHead x ≡ headAt s at → {t n : ℕ} {c : Cursor} → x ≡ head.Is t n c → (c .at ≤ length s) × (n < 16777216)
+  head-found e f = head-within (sym e ∙ ap toldHead f)
+
+-- ---- octets that are not there
+
+-- the test of a sum, without one that wraps
+pub sum-test : (at n : ℕ) → at < 2 ^ 64 → ltb (18446744073709551615 - at) n ≡ leb (2 ^ 64) (at + n)
+sum-test at n h =
+    split (2 ^ 64) (at + n)
+    (λ a. lt-ltb (18446744073709551615 - at) n (omega arith) ∙ sym (le-leb (2 ^ 64) (at + n) a))
+    (λ a. le-ltb (18446744073709551615 - at) n (omega arith) ∙ sym (lt-leb (2 ^ 64) (at + n) a))
+
+module _ (s : List ℕ) (at n : ℕ) where
+  missing-sum : 2 ^ 64 ≤ at + n → missingAt s at n ≡ length s
+  unfolding missingAt
+  missing-sum h = rw (le-ltb (at + n) (2 ^ 64) h)
+
+  missing-place : at + n < 2 ^ 64 → missingAt s at n ≡ at
+  unfolding missingAt
+  missing-place h = rw (lt-ltb (at + n) (2 ^ 64) h)
+
 -- ---- an integer
 
 module _ (w : ℕ) (s : List ℕ) (at n : ℕ) where
-  pub number-none : length s ≤ at → numberAt w s at n ≡ refused endsTooSoon at
+  pub number-none : length s ≤ at → numberAt w s at n ≡ refused endsTooSoon (missingAt s at n)
   unfolding numberAt
   number-none h = simp le-leb
 
   module _ (one : at < length s) where
-    pub number-cut : length s < at + n → numberAt w s at n ≡ refused endsTooSoon at
+    pub number-cut : length s < at + n → numberAt w s at n ≡ refused endsTooSoon (missingAt s at n)
     unfolding numberAt
     number-cut h = simp (lt-leb, lt-ltb)
 
@@ -150,12 +202,33 @@ module _ (w : ℕ) (s : List ℕ) (at n : ℕ) where
             let z : getD s at 0 ≤ 0 = omega arith in
             simp (lt-leb, le-ltb)
 
+module _ (w : ℕ) (s : List ℕ) (at n : ℕ) where
+  -- place and length add up to 2^64 or more
+  pub number-sum : length s < 2 ^ 64 → 2 ^ 64 ≤ at + n → numberAt w s at n ≡ refused endsTooSoon (length s)
+  number-sum l h =
+      split (length s) at
+      (λ a. number-none w s at n a ∙ rw (missing-sum s at n h))
+      (λ a. number-cut w s at n a (omega arith) ∙ rw (missing-sum s at n h))
+
+  -- or stay below it
+  pub number-none-at : at + n < 2 ^ 64 → length s ≤ at → numberAt w s at n ≡ refused endsTooSoon at
+  number-none-at h a = number-none w s at n a ∙ rw (missing-place s at n h)
+
+  pub number-cut-at : at + n < 2 ^ 64 → at < length s → length s < at + n → numberAt w s at n ≡ refused endsTooSoon at
+  number-cut-at h a b = number-cut w s at n a b ∙ rw (missing-place s at n h)
+
 -- ---- octets
 
 module _ (number limit : ℕ) (s : List ℕ) (at n : ℕ) where
-  pub span-cut : length s < at + n → spanAt number limit s at n ≡ refused endsTooSoon at
+  pub span-cut : length s < at + n → spanAt number limit s at n ≡ refused endsTooSoon (missingAt s at n)
   unfolding spanAt
   span-cut h = simp lt-ltb
+
+  pub span-sum : length s < 2 ^ 64 → 2 ^ 64 ≤ at + n → spanAt number limit s at n ≡ refused endsTooSoon (length s)
+  span-sum l h = span-cut (omega arith) ∙ rw (missing-sum s at n h)
+
+  pub span-cut-at : at + n < 2 ^ 64 → length s < at + n → spanAt number limit s at n ≡ refused endsTooSoon at
+  span-cut-at h a = span-cut a ∙ rw (missing-place s at n h)
 
   pub span-long : at + n ≤ length s → limit < n → spanAt number limit s at n ≡ refused number at
   unfolding spanAt
@@ -176,14 +249,6 @@ unfolding hasAt and
 has-there s at tag h = simp lt-ltb
 
 -- ---- what was found keeps to its bounds
-
--- two numbers are one way round or the other
-split : {P : Type 0} (a b : ℕ) → (a ≤ b → P) → (b < a → P) → P
-split {P} a b f g = go (leb a b) refl
-  where
-    go : (t : Bool) → leb a b ≡ t → P
-    go true e = f (leb-true a b e)
-    go false e = g (leb-false a b e)
 
 -- a number that was read is one of w octets
 pub data Below (w : ℕ) : Out ℕ → Type 0 where

@@ -1,8 +1,9 @@
 -- What each answer of the cursor says, in the terms of the definition: a value and the place after it, or a refusal's number and
--- place.
+-- place: definitions only.
 use mathlib.Core.List.{List}
 use Prim.Native.Nat.{ℕ}
-use lib.ListN.{take, drop}
+use lib.ListN.{length, take, drop}
+use Rattle.definition.specs.Limits.{endsTooSoon}
 use Rattle.definition.specs.Read.{Out, got, refused}
 use Rattle.definition.specs.Read as read
 use Rattle.rt_services.specs.declared.Refusal.{Refusal}
@@ -12,6 +13,8 @@ use Rattle.ber_decode.specs.declared.Number.{Number}
 use Rattle.ber_decode.specs.declared.Number.the-variants as number
 use Rattle.ber_decode.specs.declared.Span.{Span}
 use Rattle.ber_decode.specs.declared.Span.the-variants as span
+use Rattle.ber_decode.specs.declared.Outcome.{Outcome}
+use Rattle.ber_decode.specs.declared.Outcome.the-variants as outcome
 use Rattle.ber_decode.specs.declared.Width.{Width}
 use Rattle.ber_decode.specs.declared.Width.the-variants as width
 
@@ -35,11 +38,15 @@ abbrev pub foundSpan : ℕ → ℕ → Out (List ℕ) → Span
 foundSpan at k (got l end) = span.Octets at k (record { at = end })
 foundSpan at k (refused n p) = span.Refused (record { number = n; place = p })
 
+-- the refusal of octets of s at a place and of a length that add up to 2^64 or more
+abbrev pub beyondEnd : List ℕ → Refusal
+beyondEnd s = record { number = endsTooSoon; place = length s }
+
 -- the octets of a field
-abbrev pub octetsOf : Width → ℕ
-octetsOf width.One = 1
-octetsOf width.Two = 2
-octetsOf width.Four = 4
+abbrev pub widthOctets : Width → ℕ
+widthOctets width.One = 1
+widthOctets width.Two = 2
+widthOctets width.Four = 4
 
 -- the refusal of an answer that is one; of another, 0 at 0, which no refusal is
 abbrev pub noRefusal : Refusal
@@ -56,3 +63,7 @@ numberRefusal (number.Refused r) = r
 abbrev pub spanRefusal : Span → Refusal
 spanRefusal (span.Octets a k c) = noRefusal
 spanRefusal (span.Refused r) = r
+
+abbrev pub outcomeRefusal : Outcome → Refusal
+outcomeRefusal (outcome.Next c) = noRefusal
+outcomeRefusal (outcome.Refused r) = r

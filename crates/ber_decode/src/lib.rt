@@ -1,9 +1,10 @@
 // Steps over received octets (X.690): a cursor by value, and an enum for each answer.
 ghost use mathlib.Core.Path.{_≡_};
-ghost use Prim.Native.Nat.{_+_, _-_, _≤_, _^_};
+ghost use Prim.Native.Nat.{_+_, _-_, _≤_, _<_, _^_};
 ghost use lib.ListN.{length};
+ghost use lib.Dec.{leb};
 ghost use Rattle.definition.specs.Read.{beAt, headAt, numberAt, spanAt, hasAt};
-ghost use Rattle.ber_decode.specs.Told.{toldHead, toldNumber, foundSpan, octetsOf, headRefusal, numberRefusal, spanRefusal};
+ghost use Rattle.ber_decode.specs.Told.{toldHead, toldNumber, foundSpan, beyondEnd, widthOctets, headRefusal, numberRefusal, spanRefusal, outcomeRefusal};
 use rt_services::Refusal;
 
 // A place in the received octets.
@@ -27,6 +28,12 @@ pub enum Number {
 pub enum Span {
     Refused(Refusal),
     Octets(usize, usize, Cursor),
+}
+
+// Where reading goes on, or why it ended.
+pub enum Outcome {
+    Refused(Refusal),
+    Next(Cursor),
 }
 
 // The octets of an integer field.
@@ -74,9 +81,26 @@ fn extended(s: &[u8], at: usize, width: usize, n: usize) -> u32
     whole as u32
 }
 
+// Whether a place and a length add up to 2^64 or more.
+fn passes(at: usize, len: usize) -> bool
+    ensures { λ r. ⌜ r ≡ leb (2 ^ 64) (at + len) ⌝ }
+{
+    18446744073709551615 - at < len
+}
+
+// Then no octets are there, and the place is the end of those that are.
+fn beyond(s: &[u8]) -> Refusal
+    ensures { λ r. ⌜ r ≡ beyondEnd (now (s .entry)) ⌝ }
+{
+    Refusal {
+        number: Refusal::ENDS_TOO_SOON,
+        place: s.len(),
+    }
+}
+
 // An integer of len octets from at, in a field of width octets.
 fn integer_of(s: &[u8], at: usize, width: usize, len: usize) -> Number
-    requires { ⌜ (1 ≤ width) × (width ≤ 4) ⌝ }
+    requires { ⌜ (1 ≤ width) × (width ≤ 4) × (at + len < 2 ^ 64) ⌝ }
     ensures { λ r. ⌜ toldNumber r ≡ numberAt width (now (s .entry)) at len ⌝ }
 {
     if s.len() <= at {
@@ -121,7 +145,7 @@ fn integer_of(s: &[u8], at: usize, width: usize, len: usize) -> Number
 
 impl Width {
     pub fn octets(self) -> usize
-        ensures { λ r. ⌜ r ≡ octetsOf self ⌝ }
+        ensures { λ r. ⌜ r ≡ widthOctets self ⌝ }
     {
         match self {
             Width::One => 1,
@@ -179,7 +203,18 @@ impl Cursor {
 
     // An integer of len octets, in a field of this width.
     pub fn integer(self, s: &[u8], width: Width, len: usize) -> Number
-        ensures { λ r. ⌜ toldNumber r ≡ numberAt (octetsOf width) (now (s .entry)) (self .at) len ⌝ }
+        ensures { λ r. ⌜ toldNumber r ≡ numberAt (widthOctets width) (now (s .entry)) (self .at) len ⌝ }
+    {
+        if passes(self.at, len) {
+            return Number::Refused(beyond(s));
+        }
+        self.integer_after(s, width, len)
+    }
+
+    // The same where place and length stay below 2^64, as they do after a tag and its length.
+    pub fn integer_after(self, s: &[u8], width: Width, len: usize) -> Number
+        requires { ⌜ self .at + len < 2 ^ 64 ⌝ }
+        ensures { λ r. ⌜ toldNumber r ≡ numberAt (widthOctets width) (now (s .entry)) (self .at) len ⌝ }
     {
         let octets = width.octets();
         integer_of(s, self.at, octets, len)
@@ -187,6 +222,17 @@ impl Cursor {
 
     // len octets; above limit they are refused with that number.
     pub fn octets(self, s: &[u8], number: usize, limit: usize, len: usize) -> Span
+        ensures { λ r. ⌜ r ≡ foundSpan (self .at) len (spanAt number limit (now (s .entry)) (self .at) len) ⌝ }
+    {
+        if passes(self.at, len) {
+            return Span::Refused(beyond(s));
+        }
+        self.octets_after(s, number, limit, len)
+    }
+
+    // The same where place and length stay below 2^64.
+    pub fn octets_after(self, s: &[u8], number: usize, limit: usize, len: usize) -> Span
+        requires { ⌜ self .at + len < 2 ^ 64 ⌝ }
         ensures { λ r. ⌜ r ≡ foundSpan (self .at) len (spanAt number limit (now (s .entry)) (self .at) len) ⌝ }
     {
         let at = self.at;
@@ -259,6 +305,20 @@ impl Span {
                 place: 0,
             },
             Span::Refused(r) => r,
+        }
+    }
+}
+
+impl Outcome {
+    pub fn refusal(self) -> Refusal
+        ensures { λ r. ⌜ r ≡ outcomeRefusal self ⌝ }
+    {
+        match self {
+            Outcome::Next(_) => Refusal {
+                number: 0,
+                place: 0,
+            },
+            Outcome::Refused(r) => r,
         }
     }
 }

@@ -8,7 +8,8 @@ use native.Mathlib.Omega.{arith}
 use lib.ListN.{length, length-append}
 use lib.Dec.{ltb}
 use borrow.Author.Tests.{lt-ltb, le-ltb}
-use Rattle.definition.specs.Octets.{octets, lengthMore, lengthOctets, uintSize, uintOctets, tlv, lt-or-ge, length-short, length-long, length-octets, lengthMore-le, length-uintOctets}
+use Rattle.definition.specs.Octets.{octets, lengthMore, lengthOctets, uintSize, uintOctets, tlv}
+use Rattle.definition.specs.OctetLaws.{lt-or-ge, length-short, length-long, length-octets, lengthMore-le, length-uintOctets}
 
 -- the number of length octets of n
 unfoldable pub lengthSize : ℕ → ℕ

@@ -10,13 +10,6 @@ use lib.Dec.{ltb, leb}
 use Rattle.definition.specs.Limits.{lengthLimit, noRoom, tooLongToWrite}
 use Rattle.definition.specs.Answers.{Answer, accepted, refusal, refuse, leaves}
 use Rattle.ber_encode.specs.Put.{Wrote, put-over}
-use Rattle.ber_encode.specs.declared.Written.{Written}
-use Rattle.ber_encode.specs.declared.Written.the-variants.{At, Refused}
-
--- the place after what was written, or the refusal's number and place
-abbrev pub told : Written → Answer ℕ
-told (Refused r) = refusal (r .number) (r .place)
-told (At p) = accepted p
 
 -- the number of a refusal, "7, then 10", or 0: of octets that end at `end` and tell the length n
 unfoldable pub refusedAs : ℕ → ℕ → ℕ → ℕ

@@ -1,6 +1,7 @@
 // Writers of tag, length and content into a lent slice. The `put_` writers trust that there is
 // room; the `encode_` ones ask for it first.
 use rt_services::Refusal;
+use rt_services::Written;
 ghost use mathlib.Core.Path.{_≡_};
 ghost use mathlib.Core.List.{_∷_};
 ghost use Prim.Native.Nat.{_+_, _-_, _/_, _%_, _≤_, _<_};
@@ -11,7 +12,8 @@ ghost use Rattle.definition.specs.Held.{heldOctets};
 ghost use Rattle.definition.specs.Answers.{encodeTagLength, encodeBer, leaves};
 ghost use Rattle.ber_encode.specs.Put.{Wrote};
 ghost use Rattle.ber_encode.specs.Size.{lengthSize, tlvSize};
-ghost use Rattle.ber_encode.specs.Told.{told, refusedAs};
+ghost use Rattle.ber_encode.specs.Told.{refusedAs};
+ghost use Rattle.rt_services.specs.Told.{toldWritten};
 
 // A length below this can be written.
 const LENGTH_LIMIT: usize = 16777216;
@@ -132,12 +134,6 @@ pub fn put_held(buffer: &mut [u8], at: usize, tag: u8, array: &[u8], len: usize)
     put_string(buffer, at, tag, &array[..len])
 }
 
-// The place after what a writer wrote, or its refusal.
-pub enum Written {
-    Refused(Refusal),
-    At(usize),
-}
-
 // a - b, and 0 where b is larger.
 fn less(a: usize, b: usize) -> usize
     ensures { λ r. ⌜ r ≡ a - b ⌝ }
@@ -165,7 +161,7 @@ fn refused_as(room: usize, at: usize, size: usize, content: usize, n: usize) -> 
 
 // A tag and the length `value`.
 pub fn encode_tag_length(tag: u8, value: usize, buffer: &mut [u8], at: usize) -> Written
-    ensures answer { λ r. ⌜ told r ≡ encodeTagLength (length (now (buffer .entry))) at tag value ⌝ }
+    ensures answer { λ r. ⌜ toldWritten r ≡ encodeTagLength (length (now (buffer .entry))) at tag value ⌝ }
     ensures octets { λ r. ⌜ now (buffer .exit) ≡ leaves (encodeTagLength (length (now (buffer .entry))) at tag value) (now (buffer .entry)) at (tag ∷ lengthOctets value) ⌝ }
 {
     let number = refused_as(buffer.len(), at, size_length(value), 0, value);
@@ -180,7 +176,7 @@ pub fn encode_tag_length(tag: u8, value: usize, buffer: &mut [u8], at: usize) ->
 
 // An unsigned integer with its tag.
 pub fn encode_unsigned_integer(tag: u8, value: u32, buffer: &mut [u8], at: usize) -> Written
-    ensures answer { λ r. ⌜ told r ≡ encodeBer (length (now (buffer .entry))) at tag (uintOctets value) ⌝ }
+    ensures answer { λ r. ⌜ toldWritten r ≡ encodeBer (length (now (buffer .entry))) at tag (uintOctets value) ⌝ }
     ensures octets { λ r. ⌜ now (buffer .exit) ≡ leaves (encodeBer (length (now (buffer .entry))) at tag (uintOctets value)) (now (buffer .entry)) at (tlv tag (uintOctets value)) ⌝ }
 {
     let size = unsigned_integer_length(value);
@@ -196,7 +192,7 @@ pub fn encode_unsigned_integer(tag: u8, value: u32, buffer: &mut [u8], at: usize
 
 // Octets with their tag.
 pub fn encode_octet_string(tag: u8, value: &[u8], buffer: &mut [u8], at: usize) -> Written
-    ensures answer { λ r. ⌜ told r ≡ encodeBer (length (now (buffer .entry))) at tag (now (value .entry)) ⌝ }
+    ensures answer { λ r. ⌜ toldWritten r ≡ encodeBer (length (now (buffer .entry))) at tag (now (value .entry)) ⌝ }
     ensures octets { λ r. ⌜ now (buffer .exit) ≡ leaves (encodeBer (length (now (buffer .entry))) at tag (now (value .entry))) (now (buffer .entry)) at (tlv tag (now (value .entry))) ⌝ }
 {
     let size = value.len();

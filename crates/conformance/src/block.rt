@@ -2,11 +2,11 @@
 use crate::describe;
 use crate::print::decimal;
 use crate::print::say;
-use ber_encode::Written;
-use decode_smv::SavRead;
 use rt_services::EthernetHeader;
 use rt_services::SavDataSetConfig;
 use rt_services::SavPdu;
+use rt_services::SavRead;
+use rt_services::Written;
 
 // The frame's octets, or the refusal's number.
 fn written(answer: Written, frame: &[u8]) {

@@ -3,10 +3,10 @@
 use crate::print::decimal;
 use crate::print::hex;
 use crate::print::say;
-use ber_encode::Written;
 use rt_services::EthernetHeader;
 use rt_services::Presence;
 use rt_services::SavPdu;
+use rt_services::Written;
 
 pub fn print() {
     say(

@@ -7,8 +7,8 @@ use crate::describe;
 use crate::octets::first;
 use crate::print::hex16;
 use crate::print::say;
-use ber_encode::Written;
 use rt_services::SavDataSetConfig;
+use rt_services::Written;
 
 fn high(mask: u32) -> u16 {
     (mask >> 16) as u16

@@ -8,9 +8,9 @@ use crate::octets::first;
 use crate::octets::put;
 use crate::print::decimal;
 use crate::print::say;
-use ber_encode::Written;
 use rt_services::SavAsdu;
 use rt_services::SavDataSetConfig;
+use rt_services::Written;
 use set_store::Addition;
 use set_store::DataSets;
 

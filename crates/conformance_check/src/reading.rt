@@ -8,13 +8,13 @@ use crate::list::sample_place;
 use crate::octets::after;
 use crate::octets::first;
 use crate::octets::plus;
-use decode_smv::SavRead;
 use rt_services::EthernetHeader;
 use rt_services::OptionalU16;
 use rt_services::Presence;
 use rt_services::SavAsdu;
 use rt_services::SavDataSetConfig;
 use rt_services::SavPdu;
+use rt_services::SavRead;
 use rt_services::Vlan;
 
 // The checksum of octets, or 0 where the field is absent.

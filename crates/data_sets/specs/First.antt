@@ -11,13 +11,14 @@ use lib.ListN.{length}
 use lib.Dec.{ltb, eqb}
 use borrow.Author.Tests.{le-ltb, lt-ltb, ne-eqb}
 use Rattle.definition.specs.Limits.{maxChannels, maxText, noRoom, tooManyChannels}
-use Rattle.definition.specs.Octets.{lt-or-ge}
+use Rattle.definition.specs.OctetLaws.{lt-or-ge}
 use Rattle.definition.specs.Frame.{Asdu, Description}
 use Rattle.definition.specs.Read.{Out, got, refused, then, headAt, textAt, uintAt, refrTmAt, gmIdentityAt, optionalAt, samplesAt, asduAt, asdusAt, Pdu, pduAt, Header, headerAt}
-use Rattle.definition.specs.Placed.{Start, startAt, pduOf, pdu-start}
+use Rattle.definition.specs.Placed.{Start, startAt, startedPdu}
+use Rattle.definition.specs.PlacedLaws.{pdu-start}
 use Rattle.definition.specs.Answers.{Answer, accepted, refusal, refuse, answer, described, readAs, readFrame, heldBy, ordinaryRead}
 use Rattle.definition.specs.Flat.{numbersFor, octetsFor, flatHeld, flatRead}
-use Rattle.definition.specs.Numbers.{Answered, ordinary-answered, ordinary-few, read-answered, read-few}
+use Rattle.definition.specs.Numbers.{AnsweredUpto, ordinary-answered, ordinary-few, read-answered, read-few}
 use Rattle.data_sets.specs.DataSets.{revAt, revFrom, firstRev}
 
 -- ---- steps
@@ -97,7 +98,7 @@ module _ (n : ℕ) (s : List ℕ) where
   unfolding revFrom
   pdu-rev at = rw (pdu-start n s at) (both (λ o (p : Pdu). Leads o (p .asdus)) (startAt s at) _ _ (λ x at. go x (ofFirst (x .noASDU) at) (asdusAt n (x .noASDU) s at) (asdus-rev (x .noASDU) at)))
     where
-      go : (x : Start) (w : Out (Option ℕ)) (o : Out (List Asdu)) → Follows Leads w o → Follows (λ o (p : Pdu). Leads o (p .asdus)) w (then o (λ l at. got (pduOf s x l) at))
+      go : (x : Start) (w : Out (Option ℕ)) (o : Out (List Asdu)) → Follows Leads w o → Follows (λ o (p : Pdu). Leads o (p .asdus)) w (then o (λ l at. got (startedPdu s x l) at))
       go x (got b p) (got l at) e = e
       go x (got b p) (refused j q) e = tt
       go x (refused j q) o e = rw e
@@ -145,8 +146,8 @@ flat-agrees a b w (accepted x) e = room-agrees w (ltb a (numbersFor (length (x .
 pub record Ordinary (s : List ℕ) (reading : ℕ → Answer (Description × ℕ)) : Type 0 where
   pub agrees : (n : ℕ) → n ≤ maxChannels → Agrees (firstRev s) (reading n)
   pub many : (n : ℕ) → maxChannels < n → reading n ≡ refusal tooManyChannels 0
-  pub answered : (n : ℕ) → Answered 8 (reading n)
-  pub few : (n : ℕ) → n ≤ maxChannels → Answered 7 (reading n)
+  pub answered : (n : ℕ) → AnsweredUpto 8 (reading n)
+  pub few : (n : ℕ) → n ≤ maxChannels → AnsweredUpto 7 (reading n)
 
 pub ordinary : (a b : ℕ) (s : List ℕ) → Ordinary s (λ n. ordinaryRead n a b s)
 unfolding ordinaryRead readFrame heldBy

@@ -13,7 +13,8 @@ use borrow.Author.Tests.{ltb-true, ltb-false, lt-ltb, leb-true, leb-false, eq-eq
 use Rattle.definition.specs.Limits.{maxChannels, maxSets, tooManyChannels, setNotAdded}
 use Rattle.definition.specs.Frame.{All, all, and}
 use Rattle.definition.specs.Answers.{Answer, accepted, refusal, refuse}
-use Rattle.definition.specs.Back.{and-both}
+use Rattle.definition.specs.Tests.{and-both}
+use Rattle.definition.specs.Sound.{all-append}
 use Rattle.data_sets.specs.DataSets.{higher, add, kept, added, stored, find}
 
 -- what a test says of each element, where it holds of all
@@ -21,11 +22,6 @@ pub all-true : {A : Type 0} (f : A → Bool) (P : A → Type 0) → ((x : A) →
 unfolding all All
 all-true f P h [] e = tt
 all-true f P h (x ∷ l) e = let g = and-both (f x) (all f l) e in (h x (g .0), all-true f P h l (g .1))
-
-all-append : {A : Type 0} (P : A → Type 0) (l : List A) (y : A) → All P l → P y → All P (l ++ (y ∷ []))
-unfolding All
-all-append P [] y h g = (g, tt)
-all-append P (x ∷ l) y h g = (h .0, all-append P l y (h .1) g)
 
 module _ {A : Type 0} where
   -- "higher than all held"
@@ -49,7 +45,7 @@ module _ {A : Type 0} where
   rising-more : (l : List (ℕ × A)) (y : ℕ × A) → Rising l → Below (y .0) l → Rising (l ++ (y ∷ []))
   unfolding Rising All
   rising-more [] y h g = (tt, tt)
-  rising-more (x ∷ l) y h g = (all-append (λ (z : ℕ × A). x .0 < z .0) l y (h .0) (g .0), rising-more l y (h .1) (g .1))
+  rising-more (x ∷ l) y h g = (all-append (λ (z : ℕ × A). x .0 < z .0) l (y ∷ []) (h .0) (g .0, tt), rising-more l y (h .1) (g .1))
 
   -- a set that is found is found among more
   find-append : (l m : List (ℕ × A)) (rev : ℕ) (x : A) → find l rev ≡ some x → find (l ++ m) rev ≡ some x
@@ -158,14 +154,14 @@ module _ {A : Type 0} (channels : A → ℕ) where
     pub each : All (λ (y : ℕ × A). channels (y .1) ≤ maxChannels) l
 
   made-added : (l : List (ℕ × A)) (y : ℕ × A) → Made l → Made (added channels l y)
-  unfolding added
+  unfolding added All
   made-added l y h = go (add channels l (y .0) (y .1)) (outcome l (y .0) (y .1))
     where
       go : (r : Answer (List (ℕ × A))) → Outcome l (y .0) (y .1) r → Made (kept l r)
       go _ (taken f b c) = record {
         rising = rising-more l y (h .rising) b;
         few = omega (arith, length-append l (y ∷ []), c);
-        each = all-append (λ (z : ℕ × A). channels (z .1) ≤ maxChannels) l y (h .each) f;
+        each = all-append (λ (z : ℕ × A). channels (z .1) ≤ maxChannels) l (y ∷ []) (h .each) (f, tt);
       }
       go _ (many f) = h
       go _ (not-added f o) = h

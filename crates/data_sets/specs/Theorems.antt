@@ -15,7 +15,7 @@ use Rattle.definition.specs.Frame.{Asdu, Description, All}
 use Rattle.definition.specs.Read.{Out, got, refused}
 use Rattle.definition.specs.Answers.{Answer, accepted, refusal, refuse, answer, ordinaryRead}
 use Rattle.definition.specs.Flat.{flatRead}
-use Rattle.definition.specs.Numbers.{Answered, no-from-1}
+use Rattle.definition.specs.Numbers.{AnsweredUpto, no-from-1}
 use Rattle.data_sets.specs.DataSets.{added, stored, find, firstRev, findFor, oneRev, ofOneRev, beside, withSet, readWith, readBy, flatReadBy}
 use Rattle.data_sets.specs.Store.{all-true, find-added, made-fits}
 use Rattle.data_sets.specs.First.{Leads, Ordinary, ordinary, flat-ordinary, first-refused, read-first}
@@ -94,10 +94,10 @@ pub record ByConfRev {A : Type 0} (channels : A → ℕ) (reading : ℕ → Answ
   pub else : {k p : ℕ} → r ≡ refusal k p → (k ≡ noSet → ⊥) → (k ≡ otherConfRev → ⊥)
       → (firstRev s ≡ refused k p) ⊎ ((x : A) × (HeldFor l s x × (reading (channels x) ≡ refusal k p)))
 
-number-upto : {most : ℕ} {r : Answer (Description × ℕ)} → Answered most r → {k p : ℕ} → r ≡ refusal k p → k ≤ most
+number-upto : {most : ℕ} {r : Answer (Description × ℕ)} → AnsweredUpto most r → {k p : ℕ} → r ≡ refusal k p → k ≤ most
 number-upto {most} h {k} {p} e = go (rw e at h)
   where
-    go : Answered most {A = Description × ℕ} (refusal k p) → k ≤ most
+    go : AnsweredUpto most {A = Description × ℕ} (refusal k p) → k ≤ most
     go (no-from-1 h) = h .1
 
 one-rev : (rev : ℕ) (l : List Asdu) → oneRev l ≡ true → Leads (some rev) l → All (λ (c : Asdu). c .confRev ≡ rev) l × (1 ≤ length l)

@@ -11,6 +11,7 @@ use Rattle.definition.specs.Limits.{maxChannels, maxSets}
 use Rattle.definition.specs.Answers.{Answer}
 use Rattle.definition.specs.Flat.{nth}
 use Rattle.definition.specs.Scaling.{upTo}
+use Rattle.definition.specs.UpTo.{same-elements}
 use Rattle.rt_services.specs.declared.SavDataSetConfig.{SavDataSetConfig}
 use Rattle.data_sets.specs.DataSets.{storeNumbers, storeScales, kept, heldIn, setAt, setsFrom, storeOf, channelsOf, storeAdd, numbersAfter, scalesAfter}
 use Rattle.data_sets.specs.Store.{Outcome, taken, many, not-added, outcome}
@@ -35,13 +36,6 @@ module _ {A : Type 0} (l : List A) (at : ℕ) (xs : List A) (room : at + length 
       rw is ((rw front at e) ∙ List·getD-append xs (drop (at + length xs) l) d i g)
 
 -- ---- the elements of a list, one after the other
-
-same-elements : {A : Type 0} (m : ℕ) (f g : ℕ → A) → ((j : ℕ) → j < m → f j ≡ g j) → upTo m f ≡ upTo m g
-unfolding upTo
-same-elements zero f g h = refl
-same-elements (suc m) f g h =
-    let e : f m ≡ g m = h m (omega arith) in
-    rw (same-elements m f g (λ j less. h j (omega arith)), e)
 
 all-elements : {A : Type 0} (l : List A) (d : A) (m : ℕ) → m ≤ length l → upTo m (λ j. getD l j d) ≡ take m l
 unfolding upTo

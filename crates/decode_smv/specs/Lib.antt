@@ -1,9 +1,9 @@
-pub mod Told
 pub mod Steps
 pub mod Samples
 pub mod Asdus
 pub mod Pdu
 pub mod NoAsdu
+pub mod Start
 pub mod Outcome
 pub mod Opening
 pub mod Reading

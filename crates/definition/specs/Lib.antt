@@ -1,10 +1,14 @@
 pub mod Limits
 pub mod Octets
+pub mod OctetLaws
 pub mod Frame
+pub mod Tests
 pub mod Read
 pub mod Answers
 pub mod Samples
 pub mod Over
+pub mod Signed
+pub mod UpTo
 pub mod Flat
 pub mod Calls
 pub mod FlatBack
@@ -13,9 +17,11 @@ pub mod Trip
 pub mod Sound
 pub mod Agreement
 pub mod Placed
+pub mod PlacedLaws
 pub mod Sizes
 pub mod Scaling
 pub mod Held
+pub mod HeldLaws
 pub mod Svread
 pub mod Numbers
 pub mod Table

@@ -1,5 +1,5 @@
--- Laws of `over`: a list in which the elements from a place on are others.
-use mathlib.Core.Path.{_≡_, sym, _∙_}
+-- Laws of `over`, a list in which the elements from a place on are others, and of no elements.
+use mathlib.Core.Path.{_≡_, refl, sym, _∙_}
 use mathlib.Core.List.{List, [], _∷_, _++_, append-assoc, append-nil}
 use Prim.Native.Nat.{ℕ, suc, _+_, _-_, _≤_, _<_}
 use native.Mathlib.Nat.{add-zero, zero-add}
@@ -9,6 +9,9 @@ use lib.Seq.{drop-cons, set-at, length-take-le, take-at, drop-length, take-appen
 use Rattle.definition.specs.Answers.{over}
 
 module _ {A : Type 0} (l : List A) where
+  pub take-none : take 0 l ≡ []
+  take-none = refl
+
   pub over-none : (at : ℕ) → l ≡ over l at []
   unfolding over
   over-none at = rw add-zero (sym (take-append-drop at l))

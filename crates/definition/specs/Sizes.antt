@@ -10,9 +10,11 @@ use lib.Seq.{take-at, drop-at}
 use lib.IntN.{ℤ, pos}
 use lib.Dec.{ltb}
 use Rattle.definition.specs.Limits.{qualityLimit}
-use Rattle.definition.specs.Octets.{octets, length-octets, lengthOctets, tlv}
+use Rattle.definition.specs.Octets.{octets, lengthOctets, tlv}
+use Rattle.definition.specs.OctetLaws.{length-octets}
 use Rattle.definition.specs.Frame.{Form, Asdu, Description, samplesOctets, word, contentOctets, asdusOctets, pduContent, pduOctets, frameOctets, and, all, asduFits, fits, writable}
 use Rattle.definition.specs.Answers.{qualitiesOf, allQualities}
+use Rattle.definition.specs.Tests.{and-assoc, and-true, all-both}
 
 -- a sample of 0; an ASDU, and a description, with as many samples of 0
 abbrev pub zeroSample : ℤ × ℕ
@@ -89,11 +91,6 @@ abbrev pub qualityFits : ℕ → Bool
 qualityFits q = ltb q qualityLimit
 
 -- tests in another order
-and-assoc : (a b c : Bool) → and a (and b c) ≡ and (and a b) c
-unfolding and
-and-assoc true b c = refl
-and-assoc false b c = refl
-
 and-swap : (a b c : Bool) → and (and a b) c ≡ and (and a c) b
 unfolding and
 and-swap true true true = refl
@@ -101,21 +98,6 @@ and-swap true true false = refl
 and-swap true false true = refl
 and-swap true false false = refl
 and-swap false b c = refl
-
-pub and-true : (a : Bool) → and a true ≡ a
-unfolding and
-and-true true = refl
-and-true false = refl
-
-pub and-false : (a : Bool) → and a false ≡ false
-unfolding and
-and-false true = refl
-and-false false = refl
-
-all-append : (f : ℕ → Bool) (l m : List ℕ) → all f (l ++ m) ≡ and (all f l) (all f m)
-unfolding all and
-all-append f [] m = refl
-all-append f (x ∷ l) m = rw (all-append f l m) (and-assoc (f x) (all f l) (all f m))
 
 all-qualities : (l : List (ℤ × ℕ)) → all (λ (x : ℤ × ℕ). qualityFits (x .1)) l ≡ all qualityFits (qualitiesOf l)
 unfolding all qualitiesOf
@@ -140,7 +122,7 @@ asdus-fit (a ∷ l) =
     let y = all asduFits (map zeroedAsdu l) in
     let turn : and (and z q) (and y (all qualityFits (allQualities l))) ≡ and (and z y) (and q (all qualityFits (allQualities l)))
     = and-assoc (and z q) y _ ∙ rw (and-swap z q y) (sym (and-assoc (and z y) q _)) in
-    rw (asdu-fits a, asdus-fit l, all-append qualityFits (qualitiesOf (a .samples)) (allQualities l)) turn
+    rw (asdu-fits a, asdus-fit l, all-both qualityFits (qualitiesOf (a .samples)) (allQualities l)) turn
 
 -- 9 is refused for the description without its samples, or for a quality word
 pub fits-is : (d : Description) → fits d ≡ and (fits (zeroed d)) (all qualityFits (allQualities (d .asdus)))

@@ -10,7 +10,8 @@ use lib.IntN.{ℤ}
 use lib.Dec.{eqb}
 use borrow.Author.Tests.{eqb-true}
 use Rattle.definition.specs.Limits.{smvEtherType, vlanTpid}
-use Rattle.definition.specs.Octets.{octets, length-octets}
+use Rattle.definition.specs.Octets.{octets}
+use Rattle.definition.specs.OctetLaws.{length-octets}
 use Rattle.definition.specs.Frame.{Form, optional, vlanOctets, reserved, pduOctets, lengthOf, frameOctets, held}
 use Rattle.definition.specs.Answers.{described}
 use Rattle.rt_services.specs.declared.SavPdu.{SavPdu}
@@ -18,15 +19,16 @@ use Rattle.rt_services.specs.declared.EthernetHeader.{EthernetHeader}
 use Rattle.rt_services.specs.declared.Vlan.{Vlan}
 use Rattle.rt_services.specs.declared.Vlan.the-variants as vlan
 use Rattle.rt_services.specs.Describe.{tagOf, headerOf, pduOf, descriptionOf}
-use Rattle.encode_check.specs.Fits.{headerFits, both}
+use Rattle.encode_check.specs.Fits.{headerFits}
+use Rattle.definition.specs.Tests.{and-both}
 
 -- TPID and TCI of a tag, or nothing
 unfoldable pub tagOctets : Vlan → List ℕ
 tagOctets v = optional vlanOctets (tagOf v)
 
 -- with the simulation mark and Length
-unfoldable pub headerOctets : EthernetHeader → Bool → ℕ → List ℕ
-headerOctets h sim len =
+unfoldable pub headerWritten : EthernetHeader → Bool → ℕ → List ℕ
+headerWritten h sim len =
     h .«dst_addr»
     ++ (h .«src_addr»
     ++ (tagOctets (h .vlan)
@@ -70,8 +72,8 @@ length-reserved sim = refl
 
 -- 22 octets and the tag
 pub length-header : (h : EthernetHeader) (sim : Bool) (len : ℕ) → length (h .«dst_addr») ≡ 6 → length (h .«src_addr») ≡ 6
-    → length (headerOctets h sim len) ≡ 22 + length (tagOctets (h .vlan))
-unfolding headerOctets
+    → length (headerWritten h sim len) ≡ 22 + length (tagOctets (h .vlan))
+unfolding headerWritten
 length-header h sim len e f =
     simp (length-append, length-octets, length-reserved, e, f) (omega arith)
 
@@ -79,12 +81,12 @@ length-header h sim len e f =
 pub header-fits : (h : EthernetHeader) → headerFits h ≡ true → (h .«ether_type» ≡ smvEtherType) × TagFits (h .vlan)
 unfolding headerFits TagFits
 header-fits h e =
-    let b = both _ _ e in
+    let b = and-both _ _ e in
     (eqb-true (h .«ether_type») smvEtherType (b .0), b .1)
 
 -- the frame is the header, then the PDU
 pub frame-is : (form : Form) (n : ℕ) (h : EthernetHeader) (p : SavPdu) (counts : List ℤ) (qualities : List ℕ)
     → frameOctets form (descriptionOf n h p counts qualities)
-    ≡ headerOctets h (p .sim) (lengthOf form (descriptionOf n h p counts qualities)) ++ pduOctets form (descriptionOf n h p counts qualities)
-unfolding frameOctets headerOctets tagOctets descriptionOf described headerOf pduOf
+    ≡ headerWritten h (p .sim) (lengthOf form (descriptionOf n h p counts qualities)) ++ pduOctets form (descriptionOf n h p counts qualities)
+unfolding frameOctets headerWritten tagOctets descriptionOf described headerOf pduOf
 frame-is form n h p counts qualities = simp append-assoc

@@ -8,7 +8,7 @@ ghost use lib.ListN.{length};
 ghost use Rattle.definition.specs.Frame.{reserved};
 ghost use Rattle.ber_encode.specs.Put.{Wrote};
 ghost use Rattle.encode_check.specs.Fits.{headerFits};
-ghost use Rattle.encode_header.specs.Header.{tagOctets, headerOctets, TagFits};
+ghost use Rattle.encode_header.specs.Header.{tagOctets, headerWritten, TagFits};
 
 // 81 00 and TCI, or nothing.
 fn put_vlan(frame: &mut [u8], at: usize, vlan: Vlan) -> usize
@@ -18,7 +18,7 @@ fn put_vlan(frame: &mut [u8], at: usize, vlan: Vlan) -> usize
     let Vlan::Tagged(_, tci) = vlan else {
         return at;
     };
-    let p = ber_encode::put_bytes(frame, at, b"\x81\x00");
+    let p = ber_encode::put_bytes(frame, at, &Vlan::TPID);
     ber_encode::put_octets(frame, p, 2, tci as u32)
 }
 
@@ -35,7 +35,7 @@ fn put_reserved(frame: &mut [u8], at: usize, sim: bool) -> usize
 
 // How many octets the header is written in.
 pub fn header_length(header: EthernetHeader) -> usize
-    ensures octets { λ r. ⌜ ((sim : Bool) (len : ℕ) → r ≡ length (headerOctets header sim len)) ⌝ }
+    ensures octets { λ r. ⌜ ((sim : Bool) (len : ℕ) → r ≡ length (headerWritten header sim len)) ⌝ }
     ensures bound { λ r. ⌜ r ≤ 26 ⌝ }
 {
     let vlan = header.vlan;
@@ -52,8 +52,8 @@ pub fn encode_ethernet_header(
     sim: bool,
     len: u16,
 ) -> usize
-    requires { ⌜ (headerFits header ≡ true) × (length (headerOctets header sim len) ≤ length (now frame)) ⌝ }
-    ensures { λ r. ⌜ Wrote (now (frame .entry)) 0 (headerOctets header sim len) (now (frame .exit)) r ⌝ }
+    requires { ⌜ (headerFits header ≡ true) × (length (headerWritten header sim len) ≤ length (now frame)) ⌝ }
+    ensures { λ r. ⌜ Wrote (now (frame .entry)) 0 (headerWritten header sim len) (now (frame .exit)) r ⌝ }
 {
     let dst_addr = header.dst_addr;
     let src_addr = header.src_addr;
@@ -61,7 +61,7 @@ pub fn encode_ethernet_header(
     let p1 = ber_encode::put_bytes(frame, 0, &dst_addr);
     let p2 = ber_encode::put_bytes(frame, p1, &src_addr);
     let p3 = put_vlan(frame, p2, vlan);
-    let p4 = ber_encode::put_bytes(frame, p3, b"\x88\xba");
+    let p4 = ber_encode::put_bytes(frame, p3, &EthernetHeader::SMV);
     let p5 = ber_encode::put_octets(frame, p4, 2, header.appid as u32);
     let p6 = ber_encode::put_octets(frame, p5, 2, len as u32);
     put_reserved(frame, p6, sim)

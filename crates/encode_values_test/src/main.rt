@@ -1,6 +1,5 @@
 // Frames written from values, and the refusals in document 01's order: for each case what
 // `encode_values` answers, and the octets of the buffer after it, which were AA.
-use ber_encode::Written;
 use libc::STDOUT_FILENO;
 use rt_services::EthernetHeader;
 use rt_services::Presence;
@@ -8,6 +7,7 @@ use rt_services::SavAsdu;
 use rt_services::SavDataSetConfig;
 use rt_services::SavPdu;
 use rt_services::Vlan;
+use rt_services::Written;
 
 // The header of document 01's frame, with any EtherType.
 fn header_of(ether_type: u16) -> EthernetHeader {

@@ -1,4 +1,4 @@
--- The record that reading a header answers, and the cases of the definitions.
+-- The cases of the definitions that read a header.
 use mathlib.Core.Path.{_≡_, refl, sym, ap}
 use mathlib.Core.List.{List, [], _∷_}
 use mathlib.Core.Option.{Option, some, none}
@@ -6,34 +6,19 @@ use mathlib.Core.Bool.{Bool, true, false}
 use Prim.Native.Nat.{ℕ, zero, suc, _+_, _*_, _<_, _≤_}
 use native.Mathlib.Omega.{arith}
 use native.Mathlib.Nat.{add-zero}
-use lib.ListN.{length, getD, take, drop, replicate, List·getD-eq-default}
+use lib.ListN.{length, getD, take, drop, List·getD-eq-default}
 use lib.Seq.{drop-cons}
 use lib.Dec.{leb, eqb, lit<}
 use borrow.Author.Tests.{le-leb, lt-leb, le-ltb, lt-ltb, eq-eqb, ne-eqb, eqb-true, eqb-false}
 use Rattle.definition.specs.Limits.{endsTooSoon}
-use Rattle.definition.specs.Frame.{and}
-use Rattle.definition.specs.Read.{Out, got, refused, beAt, tagged, Header, blankHeader, headerAt, headerFrom, isSmvFrame, simulationOf}
+use Rattle.definition.specs.Frame.{and, Bytes}
+use Rattle.definition.specs.Read.{got, refused, beAt, tagged, headerAt, headerFrom, isSmvFrame, simulationOf}
+use Rattle.definition.specs.Over.{take-none}
 use Rattle.rt_services.specs.Describe.{headerRecord, tagOf, vlanOf}
 use Rattle.rt_services.specs.declared.Vlan.{Vlan}
 use Rattle.rt_services.specs.declared.Vlan.the-variants as vlan
-use Rattle.rt_services.specs.declared.Refusal.{Refusal}
-use Rattle.ber_decode.specs.Cases.{Bytes}
-use Rattle.ethernet_header.specs.declared.HeaderRead.{HeaderRead}
-use Rattle.ethernet_header.specs.declared.HeaderEnd.{HeaderEnd}
-use Rattle.ethernet_header.specs.declared.HeaderEnd.the-variants.{Refused, Next}
-
--- "A refusal carries a number and a place": all else is zero
-unfoldable pub noHeader : ℕ → ℕ → HeaderRead
-noHeader number place = record { outcome = Refused (record { number = number; place = place }); header = headerRecord blankHeader }
-
--- every field of the header, and the place after it
-unfoldable pub headerRead : Out Header → HeaderRead
-headerRead (got h at) = record { outcome = Next (record { at = at }); header = headerRecord h }
-headerRead (refused number place) = noHeader number place
-
-abbrev pub headerRefusal : HeaderEnd → Refusal
-headerRefusal (Refused r) = r
-headerRefusal (Next c) = record { number = 0; place = 0 }
+use Rattle.ethernet_header.specs.Told.{headerRead, noHeader}
+use Rattle.ber_decode.specs.declared.Outcome.the-variants.{Next}
 
 -- whether the two octets at a place are a and b
 unfoldable pub pairAt : List ℕ → ℕ → ℕ → ℕ → Bool
@@ -44,10 +29,6 @@ abbrev pub firstBit : List ℕ → ℕ → Bool
 firstBit s at = leb 0x80 (getD s at 0)
 
 -- ---- the cases
-
-take-none : (l : List ℕ) → take 0 l ≡ []
-take-none [] = refl
-take-none (x ∷ l) = refl
 
 eqb-alike : (a b c d : ℕ) → (a ≡ b → c ≡ d) → (c ≡ d → a ≡ b) → eqb a b ≡ eqb c d
 eqb-alike a b c d f g = go (eqb c d) refl

@@ -5,36 +5,17 @@ ghost use lib.ListN.{length, getD, take, drop};
 ghost use Rattle.definition.specs.Limits.{endsTooSoon};
 ghost use Rattle.definition.specs.Read.{beAt, tagged, headerAt, headerFrom, isSmvFrame, simulationOf};
 ghost use Rattle.rt_services.specs.Describe.{tagOf};
-ghost use Rattle.ethernet_header.specs.Header.{pairAt, headerRead, noHeader, headerRefusal, firstBit};
+ghost use Rattle.ethernet_header.specs.Header.{pairAt, firstBit};
+ghost use Rattle.ethernet_header.specs.Told.{headerRead, noHeader};
 use ber_decode::Cursor;
+use ber_decode::Outcome;
 use rt_services::EthernetHeader;
 use rt_services::Refusal;
 use rt_services::Vlan;
 
-// Whether there is a header, and the place after it.
-pub enum HeaderEnd {
-    Refused(Refusal),
-    Next(Cursor),
-}
-
-impl HeaderEnd {
-    // The refusal; 0 and 0 where there is none.
-    pub fn refusal(self) -> Refusal
-        ensures { λ r. ⌜ r ≡ headerRefusal self ⌝ }
-    {
-        match self {
-            HeaderEnd::Refused(r) => r,
-            HeaderEnd::Next(_) => Refusal {
-                number: 0,
-                place: 0,
-            },
-        }
-    }
-}
-
 // A header that was read; a refusal has it all zero and untagged.
 pub struct HeaderRead {
-    pub outcome: HeaderEnd,
+    pub outcome: Outcome,
     pub header: EthernetHeader,
 }
 
@@ -49,12 +30,6 @@ impl HeaderRead {
         length: 0,
     };
 }
-
-// The EtherType of sampled values.
-const SMV: [u8; 2] = *b"\x88\xba";
-
-// The TPID of a VLAN tag.
-const TPID: [u8; 2] = *b"\x81\x00";
 
 // Whether the octets at a place are these two.
 fn pair_at(s: &[u8], at: usize, pair: &[u8; 2]) -> bool
@@ -75,7 +50,7 @@ fn pair_at(s: &[u8], at: usize, pair: &[u8; 2]) -> bool
 fn is_tagged(s: &[u8]) -> bool
     ensures { λ r. ⌜ r ≡ tagged (now (s .entry)) ⌝ }
 {
-    pair_at(s, 12, &TPID)
+    pair_at(s, 12, &Vlan::TPID)
 }
 
 // Whether the EtherType is there, and is that of sampled values.
@@ -83,9 +58,9 @@ pub fn is_smv_frame(s: &[u8]) -> bool
     ensures { λ r. ⌜ r ≡ isSmvFrame (now (s .entry)) ⌝ }
 {
     if is_tagged(s) {
-        return pair_at(s, 16, &SMV);
+        return pair_at(s, 16, &EthernetHeader::SMV);
     }
-    pair_at(s, 12, &SMV)
+    pair_at(s, 12, &EthernetHeader::SMV)
 }
 
 // Whether the first bit of the octet at a place is set; past the end it isn't.
@@ -132,7 +107,7 @@ fn no_header(s: &[u8]) -> HeaderRead
 {
     let header = HeaderRead::BLANK;
     HeaderRead {
-        outcome: HeaderEnd::Refused(Refusal {
+        outcome: Outcome::Refused(Refusal {
             number: Refusal::ENDS_TOO_SOON,
             place: s.len(),
         }),
@@ -156,7 +131,7 @@ fn header_from(s: &[u8], at: usize, vlan: Vlan) -> HeaderRead
         length: number16(s, at + 4),
     };
     HeaderRead {
-        outcome: HeaderEnd::Next(Cursor { at: at + 10 }),
+        outcome: Outcome::Next(Cursor { at: at + 10 }),
         header,
     }
 }

@@ -8,7 +8,7 @@ use Rattle.definition.specs.Limits.{lengthsDiffer}
 use Rattle.definition.specs.Frame.{Description}
 use Rattle.definition.specs.Answers.{Answer, accepted, refusal}
 use Rattle.definition.specs.Flat.{numberOf}
-use Rattle.definition.specs.Numbers.{Answered, no-from-1}
+use Rattle.definition.specs.Numbers.{AnsweredUpto, no-from-1}
 use Rattle.fit.specs.Theorems.{Checks}
 
 module _ (Are : Answer (Description × ℕ) → Type 0) (r : ℕ) (number : (x : Answer (Description × ℕ)) → Are x → r ≡ numberOf x) where
@@ -30,9 +30,9 @@ module _ (Are : Answer (Description × ℕ) → Type 0) (r : ℕ) (number : (x :
         go (refusal k p) w f = rw (c .refuses w) f
 
   -- what a reading accepts, whose accepted answers are another's too, the other accepts so
-  pub accepted-alike : (strict check : Answer (Description × ℕ)) → Answered 8 strict → ((d : Description) (l : ℕ) → strict ≡ accepted (d, l) → check ≡ accepted (d, l)) → Are strict → r ≡ 0 → Are check
+  pub accepted-alike : (strict check : Answer (Description × ℕ)) → AnsweredUpto 8 strict → ((d : Description) (l : ℕ) → strict ≡ accepted (d, l) → check ≡ accepted (d, l)) → Are strict → r ≡ 0 → Are check
   accepted-alike strict check h passes f e = go strict refl h f
     where
-      go : (a : Answer (Description × ℕ)) → strict ≡ a → Answered 8 a → Are a → Are check
+      go : (a : Answer (Description × ℕ)) → strict ≡ a → AnsweredUpto 8 a → Are a → Are check
       go (accepted (d, l)) w h f = rw (passes d l w) f
       go (refusal k p) w (no-from-1 h) f = absurd (omega (arith, h .0, number (refusal k p) f))

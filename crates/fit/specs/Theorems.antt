@@ -11,10 +11,11 @@ use borrow.Author.Tests.{eq-eqb, eqb-true, eqb-false}
 use Rattle.definition.specs.Limits.{maxChannels, noRoom, notAsWritten, tooManyChannels, lengthsDiffer}
 use Rattle.definition.specs.Frame.{Description, Form, All, Octets, Accepted, writable, frameOctets}
 use Rattle.definition.specs.Read.{Out, got, refused, then, asdusAt, pduAt, Header, headerAt}
-use Rattle.definition.specs.Placed.{Placed, placedsAt, complete, asdus-placed, Start, startAt, pduOf, pdu-start}
+use Rattle.definition.specs.Placed.{Placed, placedsAt, complete, Start, startAt, startedPdu}
+use Rattle.definition.specs.PlacedLaws.{asdus-placed, pdu-start}
 use Rattle.definition.specs.Answers.{Answer, accepted, refusal, refuse, answer, described, readAs, readFrame, ordinaryRead, differ, unlessAt, again, strictRead}
 use Rattle.definition.specs.Flat.{numbersFor, octetsFor, flatHeld, flatRead, flatStrict}
-use Rattle.definition.specs.Numbers.{Answered, no-from-1, ordinary-answered, read-answered}
+use Rattle.definition.specs.Numbers.{AnsweredUpto, no-from-1, ordinary-answered, read-answered}
 use Rattle.definition.specs.Trip.{written-back}
 use Rattle.definition.specs.Agreement.{accepted-is-frame, ordinary-agrees}
 use Rattle.fit.specs.Fit.{asdusIn, misfit, misfitIn, checked, checkedRead, flatChecked}
@@ -52,12 +53,12 @@ module _ (n : ℕ) (s : List ℕ) where
   else-of none (accepted y) e f = no-way (sym e)
   else-of (some q) (accepted y) {k} e f = let z : lengthsDiffer ≡ k = cc in absurd (f (sym z))
 
-  only-of : (o : Option ℕ) (r : Answer (Description × ℕ)) → Answered 8 r → {p : ℕ} → checked o r ≡ refusal lengthsDiffer p → (x : Description × ℕ) × ((r ≡ accepted x) × (o ≡ some p))
+  only-of : (o : Option ℕ) (r : Answer (Description × ℕ)) → AnsweredUpto 8 r → {p : ℕ} → checked o r ≡ refusal lengthsDiffer p → (x : Description × ℕ) × ((r ≡ accepted x) × (o ≡ some p))
   only-of o (refusal k q) (no-from-1 h) e = let z : k ≡ lengthsDiffer = cc in absurd (omega (arith, h .1))
   only-of none (accepted y) h e = no-way (sym e)
   only-of (some q) (accepted y) h {p} e = let z : q ≡ p = cc in (y, (refl, ap some z))
 
-  checks-of : (r : Answer (Description × ℕ)) → Answered 8 r → Checks n s r (checked (misfitIn n s) r)
+  checks-of : (r : Answer (Description × ℕ)) → AnsweredUpto 8 r → Checks n s r (checked (misfitIn n s) r)
   checks-of r h = record {
     accepts = λ e. accepted-of (misfitIn n s) r e .0;
     refuses = λ e. rw e;
@@ -87,15 +88,15 @@ unfolding readFrame asdusIn described
 same-asdus n s d len e = go (ltb maxChannels n) (headerAt s) e
   where
     third : (h : Header) (x : Start) (o : Out (List Placed))
-        → answer (then (then o (λ l end. got (map (complete n s) l) end)) (λ l at. got (pduOf s x l) at)) (λ p end. readAs (described h p) (h .len)) ≡ readAs d len
+        → answer (then (then o (λ l end. got (map (complete n s) l) end)) (λ l at. got (startedPdu s x l) at)) (λ p end. readAs (described h p) (h .len)) ≡ readAs d len
         → (l : List Placed) × ((end : ℕ) × ((o ≡ got l end) × (map (complete n s) l ≡ d .asdus)))
     third h x (refused k p) e = no-way e
     third h x (got l end) e =
-        let z : _≡_ {A = Description × ℕ} (described h (pduOf s x (map (complete n s) l)), h .len) (d, len) = cc in
+        let z : _≡_ {A = Description × ℕ} (described h (startedPdu s x (map (complete n s) l)), h .len) (d, len) = cc in
         (l, (end, (refl, ap (λ (y : Description × ℕ). y .0 .asdus) z)))
 
     second : (h : Header) (at : ℕ) (o : Out Start)
-        → answer (then o (λ x at. then (asdusAt n (x .noASDU) s at) (λ l at. got (pduOf s x l) at))) (λ p end. readAs (described h p) (h .len)) ≡ readAs d len
+        → answer (then o (λ x at. then (asdusAt n (x .noASDU) s at) (λ l at. got (startedPdu s x l) at))) (λ p end. readAs (described h p) (h .len)) ≡ readAs d len
         → (l : List Placed) × ((end : ℕ) × ((then o (λ x at. placedsAt n (x .noASDU) s at) ≡ got l end) × (map (complete n s) l ≡ d .asdus)))
     second h at (refused k p) e = no-way e
     second h at (got x q) e = third h x (placedsAt n (x .noASDU) s q) (rw (asdus-placed n (x .noASDU) s q) at e)

@@ -11,7 +11,7 @@ use lib.Dec.{leb, ltb}
 use borrow.Author.Tests.{le-ltb, ltb-false, le-leb, leb-true, not-false}
 use Rattle.definition.specs.Limits.{maxChannels, maxText, maxSecurity, maxPdu, noRoom, tooManyChannels, badDescription, tooLongToWrite}
 use Rattle.definition.specs.Frame.{Form, Asdu, Description, pduOctets, frameOctets, and, held, all, asduFits, fits, writable, Held, All, Accepted}
-use Rattle.definition.specs.Back.{and-both}
+use Rattle.definition.specs.Tests.{and-both}
 use Rattle.definition.specs.Answers.{Answer, accepted, refusal, refuse, ordinaryRead, again, sized, strictRead}
 use Rattle.definition.specs.Trip.{within}
 use Rattle.definition.specs.Sound.{AsduShort, Short}

@@ -11,7 +11,7 @@ use Rattle.definition.specs.Frame.{Asdu, Description, Held, All, Octet, Word, O
 use Rattle.definition.specs.Answers.{allCounts, allQualities}
 use Rattle.definition.specs.Sound.{AsduShort, Short, all-append, padded-octets}
 use Rattle.definition.specs.Samples.{all-typed}
-use Rattle.definition.specs.Flat.{orElse, mark, bit, numbersOfAsdu, octetsOfAsdu, joined, numbersOfHead, octetsOfHead, numbersOf, octetsOf}
+use Rattle.definition.specs.Flat.{orElse, mark, simulationMark, numbersOfAsdu, octetsOfAsdu, joined, numbersOfHead, octetsOfHead, numbersOf, octetsOf}
 use Rattle.flat_agreement.specs.Lent.{Lent}
 
 -- ---- numbers
@@ -20,7 +20,7 @@ mark-word : {A : Type 0} (o : Option A) → Word (mark o)
 mark-word none = lit< tt
 mark-word (some x) = lit< tt
 
-bit-word : (b : Bool) → Word (bit b)
+bit-word : (b : Bool) → Word (simulationMark b)
 bit-word false = lit< tt
 bit-word true = lit< tt
 

@@ -11,7 +11,7 @@ use lib.IntN.{ℤ}
 use borrow.Author.Tests.{leb-true}
 use Rattle.definition.specs.Limits.{maxText}
 use Rattle.definition.specs.Frame.{held, Held, All, Octet, Word, Octets, Of, Count, Tag, AsduTyped, Typed}
-use Rattle.definition.specs.Back.{and-both}
+use Rattle.definition.specs.Tests.{and-both}
 use Rattle.definition.specs.Sound.{all-take, all-drop, part-octets, number-lt}
 use Rattle.definition.specs.Samples.{length-zip, all-zip}
 use Rattle.definition.specs.Flat.{headNumbers, asduNumbers, headOctets, asduOctets, nth, given, behind, asduStands, asdusStand, headStands, stands, flatAsdu, flatAsdus, flatDescription}

@@ -19,19 +19,19 @@ use Rattle.flat_agreement.specs.Accepted.{writable-short, Takes, encode-
 use Rattle.flat_agreement.specs.Calls.{WriteCall, StrictCall, Room}
 
 -- what the writer takes, and what it leaves at the start of the buffer
-pub record Wrote (form : Form) (n : ℕ) (k o : List ℕ) (cs : List ℤ) (qs : List ℕ) (old new : List ℕ) (size : ℕ) : Type 0 where
+pub record WroteFrame (form : Form) (n : ℕ) (k o : List ℕ) (cs : List ℤ) (qs : List ℕ) (old new : List ℕ) (size : ℕ) : Type 0 where
   pub takes : Takes form n k o cs qs
   pub answer : flatEncode form n k o cs qs (length old) ≡ accepted size
   pub size-is : size ≡ length (frameOctets form (flatDescription n k o cs qs))
   pub octets : take size new ≡ frameOctets form (flatDescription n k o cs qs)
   pub within : size ≤ length new
 
-pub wrote : {form : Form} {n : ℕ} {k o : List ℕ} {cs : List ℤ} {qs : List ℕ} {old new : List ℕ} {size : ℕ} → WriteCall form n k o cs qs old new 0 size → Wrote form n k o cs qs old new size
+pub wrote : {form : Form} {n : ℕ} {k o : List ℕ} {cs : List ℤ} {qs : List ℕ} {old new : List ℕ} {size : ℕ} → WriteCall form n k o cs qs old new 0 size → WroteFrame form n k o cs qs old new size
 wrote {form} {n} {k} {o} {cs} {qs} {old} {new} {size} w =
     let (m, e) = accepts-0 (flatEncode form n k o cs qs (length old)) (encode-answered form n k o cs qs (length old)) (sym (w .meets .number)) in
     go m e
   where
-    go : (m : ℕ) → flatEncode form n k o cs qs (length old) ≡ accepted m → Wrote form n k o cs qs old new size
+    go : (m : ℕ) → flatEncode form n k o cs qs (length old) ≡ accepted m → WroteFrame form n k o cs qs old new size
     go m e =
         let f = frameOctets form (flatDescription n k o cs qs) in
         let t = encode-takes form n k o cs qs (length old) e in

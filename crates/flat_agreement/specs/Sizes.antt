@@ -11,9 +11,9 @@ use lib.IntN.{ℤ, pos}
 use Rattle.definition.specs.Limits.{badDescription}
 use Rattle.definition.specs.Frame.{Form, frameOctets, and, all, writable}
 use Rattle.definition.specs.Answers.{accepted, refuse}
-use Rattle.definition.specs.Back.{and-both}
+use Rattle.definition.specs.Tests.{and-both, and-true, and-false}
 use Rattle.definition.specs.Samples.{length-zip}
-use Rattle.definition.specs.Sizes.{zeroedAsdu, zeroed, frame-length, qualityFits, and-true, and-false, fits-is, writable-is, first-zeros, rest-zeros}
+use Rattle.definition.specs.Sizes.{zeroedAsdu, zeroed, frame-length, qualityFits, fits-is, writable-is, first-zeros, rest-zeros}
 use Rattle.definition.specs.Flat.{headNumbers, asduNumbers, headOctets, asduOctets, nth, flatAsdu, flatAsdus, flatDescription, flatUnsampled, flatEncode, flatSize}
 use Rattle.flat_agreement.specs.Described.{SamplesFit, described-samples}
 use Rattle.flat_agreement.specs.Accepted.{Takes, encode-takes, encode-is, takes-encode}

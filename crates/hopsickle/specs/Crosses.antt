@@ -1,10 +1,9 @@
 -- What each call leaves for its caller: the refusal's number, or 0; beside it the refusal's place, or a size; and the lent arrays.
 use mathlib.Core.Path.{_≡_, refl, sym, ap, _∙_}
 use mathlib.Core.List.{List, _++_}
-use mathlib.Core.Logic.{inl, inr}
 use mathlib.Core.Bool.{false}
-use Prim.Native.Nat.{ℕ, zero, suc, _-_, _*_, _%_, _≤_, _<_}
-use native.Mathlib.Nat.{mul-zero, mod-lt, eq-zero-or-pos}
+use Prim.Native.Nat.{ℕ, _-_, _*_, _%_, _≤_, _<_}
+use native.Mathlib.Nat.{mul-zero}
 use native.Mathlib.Omega.{arith}
 use lib.ListN.{length, take, replicate, length-append, List·getD-append}
 use lib.IntN.{ℤ}
@@ -12,16 +11,17 @@ use lib.Ieee.{Float, nan}
 use borrow.Author.Tests.{lt-ltb, le-ltb}
 use Rattle.definition.specs.Limits.{maxChannels, noRoom, tooManyChannels}
 use Rattle.definition.specs.Frame.{Description}
-use Rattle.definition.specs.Read.{Out, got, refused, Header, headerAt}
+use Rattle.definition.specs.Read.{got, refused, Header, headerAt}
 use Rattle.definition.specs.Held.{filledTo}
-use Rattle.definition.specs.Scaling.{upTo, valuesOf, valuesAnswer}
+use Rattle.definition.specs.Scaling.{valuesOf, valuesAnswer}
 use Rattle.definition.specs.Answers.{Answer, accepted, refusal, over, leaves}
-use Rattle.definition.specs.Flat.{headerNumbers, headerOctets, numbersOfHeader, octetsOfHeader, flatHeader, numberOf, besideIt}
+use Rattle.definition.specs.Flat.{headerNumbers, headerOctets, numbersOfHeader, octetsOfHeader, flatHeader, numberOf, besideIt, maxNumbers}
 use Rattle.definition.specs.Calls.{Reads, ReadsHeader, Writes}
-use Rattle.flat_decode.specs.declared.FlatRead.{FlatRead}
-use Rattle.flat_decode.specs.declared.FlatRead.the-variants as flat
-use Rattle.flat_decode.specs.Told.{toldFlat, Left}
+use Rattle.definition.specs.UpTo.{same-elements, channel-below}
 use Rattle.flat_decode.specs.Numbers.{headOf}
+use Rattle.rt_services.specs.declared.FlatRead.{FlatRead}
+use Rattle.rt_services.specs.declared.FlatRead.the-variants as flat
+use Rattle.rt_services.specs.Told.{toldFlat, Left, toldValues}
 use Rattle.flat_decode.specs.Stores.{put-next}
 use Rattle.ber_encode.specs.Put.{put, put-over}
 use Rattle.rt_services.specs.DataSet.{noScale, dataSetOf}
@@ -30,15 +30,11 @@ use Rattle.rt_services.specs.declared.Refusal.{Refusal}
 use Rattle.rt_services.specs.declared.EthernetHeader.{EthernetHeader}
 use Rattle.rt_services.specs.declared.SavDataSetConfig.{SavDataSetConfig}
 use Rattle.rt_services.specs.declared.Presence.the-variants as presence
-use Rattle.ethernet_header.specs.Header.{headerRead, noHeader}
-use Rattle.ethernet_header.specs.declared.HeaderRead.{HeaderRead}
-use Rattle.ethernet_header.specs.declared.HeaderEnd.the-variants as end
-use Rattle.data_sets.specs.DataSets.{add, readOf, storeAdd, Adds, channelsHanded, scalesHanded}
+use Rattle.data_sets.specs.DataSets.{add, storeAdd, Adds}
 use Rattle.set_store.specs.declared.Addition.{Addition}
 use Rattle.set_store.specs.declared.Addition.the-variants as added
 use Rattle.set_store.specs.Told.{toldAddition, countHeld, AddedTo}
-use Rattle.scaling.specs.declared.Valued.{Valued}
-use Rattle.scaling.specs.Told.{toldValues}
+use Rattle.rt_services.specs.declared.Valued.{Valued}
 
 -- the number and the place of an answer that holds nothing else
 abbrev pub flatNumber : FlatRead → ℕ
@@ -48,12 +44,6 @@ flatNumber flat.Read = 0
 abbrev pub flatPlace : FlatRead → ℕ
 flatPlace (flat.Refused r) = r .place
 flatPlace flat.Read = 0
-
--- a reading by confRev: the set's channels and scale factors besides
-pub record ReadsBy (x : Answer (SavDataSetConfig × (Description × ℕ))) (k k′ o o′ : List ℕ) (cs cs′ : List ℤ) (qs qs′ : List ℕ) (n n′ : ℕ) (fs fs′ : List Float) (r beside : ℕ) : Type 0 where
-  pub read : Reads (readOf x) k k′ o o′ cs cs′ qs qs′ r beside
-  pub channels : n′ ≡ channelsHanded x n
-  pub scales : fs′ ≡ scalesHanded x fs
 
 -- ---- from the answers of the functions that are called
 
@@ -82,22 +72,8 @@ writes e f g = record { number = g .0 ∙ ap numberOf e; size = g .1 ∙ ap (bes
 
 -- ---- the header
 
--- a header that was not read
-pub header-not : (s : List ℕ) (x : HeaderRead) → x ≡ headerRead (headerAt s) → {z : Refusal} → x .outcome ≡ end.Refused z → headerAt s ≡ refused (z .number) (z .place)
-unfolding headerRead noHeader
-header-not s x e {z} w = go (headerAt s) e
-  where
-    go : (o : Out Header) → x ≡ headerRead o → o ≡ refused (z .number) (z .place)
-    go (got h at) e =
-        let f : end.Next (record { at = at }) ≡ end.Refused z = sym (ap (λ (y : HeaderRead). y .outcome) e) ∙ w in
-        let q : _≡_ {A = ℕ} 0 1 = cc in absurd (omega arith)
-    go (refused k p) e =
-        let f : end.Refused (record { number = k; place = p }) ≡ end.Refused z = sym (ap (λ (y : HeaderRead). y .outcome) e) ∙ w in
-        let g : record { number = k; place = p } ≡ z = cc in
-        ap (λ (y : Refusal). refused (y .number) (y .place)) g
-
 -- the first six of a head's numbers are the header's
-pub header-numbers : (h : EthernetHeader) (zs : List ℕ) → length zs ≡ 106 → take headerNumbers (put zs 0 (headOf h false presence.Absent 0 0)) ≡ numbersOfHeader (headerOf h)
+pub header-numbers : (h : EthernetHeader) (zs : List ℕ) → length zs ≡ maxNumbers → take headerNumbers (put zs 0 (headOf h false presence.Absent 0 0)) ≡ numbersOfHeader (headerOf h)
 unfolding numbersOfHeader headerOf headOf over
 header-numbers h zs l = rw (put-over zs 0 (headOf h false presence.Absent 0 0) (omega arith)) refl
 
@@ -135,23 +111,12 @@ module _ (a b : ℕ) (s : List ℕ) (k o : List ℕ) where
 
 -- ---- the values
 
-values-same : (m : ℕ) (f g : ℕ → Float) → ((i : ℕ) → i < m → f i ≡ g i) → upTo m f ≡ upTo m g
-unfolding upTo
-values-same zero f g e = refl
-values-same (suc m) f g e = rw (values-same m f g (λ i h. e i (omega arith)), e m (omega arith))
-
 -- only the scale factors of the channels count
 pub values-only : (scales : List Float) (counts : List ℤ) (m : ℕ)
     → valuesOf (length scales) (filledTo noScale maxChannels scales) counts (m * length scales) ≡ valuesOf (length scales) scales counts (m * length scales)
 unfolding valuesOf filledTo
 values-only scales counts m =
-    values-same (m * length scales) _ _ (λ i h. rw (List·getD-append scales (replicate (maxChannels - length scales) noScale) nan (i % length scales) (channel i h)))
-  where
-    channel : (i : ℕ) → i < m * length scales → i % length scales < length scales
-    channel i h = elim (eq-zero-or-pos (length scales)) [
-      | inl z ↦ absurd (let p : m * length scales ≡ 0 = rw z (mul-zero m) in omega arith)
-      | inr p ↦ mod-lt i p
-    ]
+    same-elements (m * length scales) _ _ (λ i h. rw (List·getD-append scales (replicate (maxChannels - length scales) noScale) nan (i % length scales) (channel-below (length scales) (m * length scales) i (λ z. rw z (mul-zero m)) h)))
 
 module _ (scales : List Float) (noASDU : ℕ) (counts : List ℤ) (old : List Float) where
   abbrev written : List Float

@@ -7,18 +7,17 @@ use lib.IntN.{ℤ}
 use lib.Ieee.{Float}
 use Rattle.definition.specs.Limits.{maxChannels, noSet}
 use Rattle.definition.specs.Frame.{Description}
-use Rattle.definition.specs.Held.{length-filledTo}
+use Rattle.definition.specs.HeldLaws.{length-filledTo}
 use Rattle.definition.specs.Answers.{Answer, accepted, refusal}
 use Rattle.definition.specs.Flat.{numberOf, flatRead}
 use Rattle.rt_services.specs.DataSet.{noScale, dataSetOf}
 use Rattle.rt_services.specs.declared.SavDataSetConfig.{SavDataSetConfig}
-use Rattle.data_sets.specs.DataSets.{readOf, flatReadBy, storeOf, channelsOf, Adds}
+use Rattle.data_sets.specs.DataSets.{readOf, flatReadBy, storeOf, channelsOf, Adds, ReadsBy}
 use Rattle.data_sets.specs.First.{flat-ordinary}
 use Rattle.data_sets.specs.Theorems.{ByConfRev, flat-by-conf-rev, flat-lasting}
 use Rattle.set_store.specs.Histories.{Built, more, later-same}
 use Rattle.read_by_sets.specs.Alike.{never-0}
 use Rattle.definition.specs.Calls.{Reads}
-use Rattle.hopsickle.specs.Crosses.{ReadsBy}
 
 -- A call of hopsickle_sets_add, with any number of scale factors, is one more addition to a store, taken or refused.
 pub one-more : {xs : List (ℕ × SavDataSetConfig)} {k : List ℕ} {f : List Float} → Built xs k f → (rev : ℕ) (scales : List Float) {k′ : List ℕ} {f′ : List Float} {r held : ℕ}

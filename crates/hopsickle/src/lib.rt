@@ -10,24 +10,23 @@ ghost use Rattle.definition.specs.Read.{isSmvFrame};
 ghost use Rattle.definition.specs.Frame.{frameOctets};
 ghost use Rattle.definition.specs.Answers.{over};
 ghost use Rattle.definition.specs.Scaling.{valuesAnswer, valuesOf};
-ghost use Rattle.definition.specs.Flat.{headerNumbers, headerOctets, numbersOfHeader, octetsOfHeader, flatDescription, flatHeader, flatRead, flatDecode, flatStrict, flatEncode, flatEncodeValues, flatSize, numberOf, besideIt};
+ghost use Rattle.definition.specs.Flat.{headerNumbers, headerOctets, numbersOfHeader, octetsOfHeader, flatDescription, flatHeader, flatRead, flatDecode, flatStrict, flatEncode, flatEncodeValues, flatSize, numberOf, besideIt, flatCounts, flatCountsGiven, flatDescribedBy};
 ghost use Rattle.grant.specs.Grant.{flatGranted};
 ghost use Rattle.fit.specs.Fit.{flatChecked};
-ghost use Rattle.data_sets.specs.DataSets.{flatReadBy, storeOf, channelsOf, Adds};
+ghost use Rattle.data_sets.specs.DataSets.{flatReadBy, storeOf, channelsOf, Adds, ReadsBy};
 ghost use Rattle.rt_services.specs.DataSet.{dataSetOf};
 ghost use Rattle.rt_services.specs.Describe.{headerOf};
-ghost use Rattle.ber_encode.specs.Told.{told};
-ghost use Rattle.flat_encode.specs.Values.{countsFor, countsIn, describedBy};
+ghost use Rattle.rt_services.specs.Told.{toldWritten};
 ghost use Rattle.definition.specs.Calls.{Reads, ReadsHeader, Writes};
-ghost use Rattle.hopsickle.specs.Crosses.{flatNumber, flatPlace, ReadsBy};
-use ber_encode::Written;
-use ethernet_header::HeaderEnd;
-use flat_decode::FlatRead;
+ghost use Rattle.hopsickle.specs.Crosses.{flatNumber, flatPlace};
+use ber_decode::Outcome;
 use rt_services::EthernetHeader;
+use rt_services::FlatRead;
 use rt_services::Presence;
 use rt_services::Refusal;
 use rt_services::SavDataSetConfig;
-use scaling::Valued;
+use rt_services::Valued;
+use rt_services::Written;
 use set_store::Addition;
 use set_store::DataSets;
 
@@ -49,7 +48,7 @@ fn answer(read: FlatRead, place: &mut usize) -> usize
 
 // The number of a refusal and its place; or 0, and the octets written.
 fn written(w: Written, size: &mut usize) -> usize
-    ensures { λ r. ⌜ (r ≡ numberOf (told w)) × (now (size .exit) ≡ besideIt (λ n. n) (told w)) ⌝ }
+    ensures { λ r. ⌜ (r ≡ numberOf (toldWritten w)) × (now (size .exit) ≡ besideIt (λ n. n) (toldWritten w)) ⌝ }
 {
     match w {
         Written::Refused(r) => {
@@ -99,7 +98,7 @@ pub extern "C" fn hopsickle_header(
 {
     let headed = ethernet_header::decode_ethernet_header(frame);
     let step = headed.outcome;
-    let HeaderEnd::Next(c) = step else {
+    let Outcome::Next(c) = step else {
         let r = step.refusal();
         *place = r.place;
         return r.number;
@@ -315,8 +314,8 @@ pub extern "C" fn hopsickle_write_values(
     frame: &mut [u8],
     size: &mut usize,
 ) -> usize
-    ensures { λ r. ⌜ Writes (flatEncodeValues fixed (length (now (scales .entry))) (now (numbers .entry)) (now (octets .entry)) (length (now (values .entry))) (countsFor (now (numbers .entry)) (now (scales .entry)) (now (values .entry))) (countsIn (now (numbers .entry)) (now (scales .entry)) (now (values .entry))) (now (qualities .entry)) (length (now (frame .entry))))
-        (frameOctets fixed (describedBy (now (numbers .entry)) (now (octets .entry)) (now (scales .entry)) (now (values .entry)) (now (qualities .entry)))) (now (frame .entry)) (now (frame .exit)) r (now (size .exit)) ⌝ }
+    ensures { λ r. ⌜ Writes (flatEncodeValues fixed (length (now (scales .entry))) (now (numbers .entry)) (now (octets .entry)) (length (now (values .entry))) (flatCounts (now (numbers .entry)) (now (scales .entry)) (now (values .entry))) (flatCountsGiven (now (numbers .entry)) (now (scales .entry)) (now (values .entry))) (now (qualities .entry)) (length (now (frame .entry))))
+        (frameOctets fixed (flatDescribedBy (now (numbers .entry)) (now (octets .entry)) (now (scales .entry)) (now (values .entry)) (now (qualities .entry)))) (now (frame .entry)) (now (frame .exit)) r (now (size .exit)) ⌝ }
 {
     let w = flat_encode::encode_values(numbers, octets, scales, fixed, values, qualities, frame);
     written(w, size)

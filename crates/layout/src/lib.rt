@@ -1,5 +1,8 @@
 // The places of a description in two arrays, one of numbers and one of octets: what stands before
-// the ASDUs, then the same for each ASDU, one after the other.
+// the ASDUs, then the same for each ASDU, one after the other. They follow from the limits of the
+// records.
+use rt_services::SavAsdu;
+use rt_services::SavPdu;
 
 // The numbers before the ASDUs. A mark is 1 where the field is there, else 0.
 pub const TAGGED: usize = 0;
@@ -27,7 +30,7 @@ pub const HEAD_NUMBERS: usize = 10;
 // The numbers, and the octets, of the header alone.
 pub const HEADER_NUMBERS: usize = 6;
 
-pub const HEADER_OCTETS: usize = 12;
+pub const HEADER_OCTETS: usize = SECURITY_OCTETS;
 
 // The numbers of an ASDU, from its first.
 pub const SV_ID_LENGTH: usize = 0;
@@ -61,22 +64,22 @@ pub const DST_ADDR: usize = 0;
 
 pub const SRC_ADDR: usize = 6;
 
-pub const SECURITY_OCTETS: usize = 12;
+pub const SECURITY_OCTETS: usize = SRC_ADDR + 6;
 
-pub const HEAD_OCTETS: usize = 76;
+pub const HEAD_OCTETS: usize = SECURITY_OCTETS + SavPdu::MAX_SECURITY;
 
 // The octets of an ASDU, from its first.
 pub const SV_ID_OCTETS: usize = 0;
 
-pub const DAT_SET_OCTETS: usize = 127;
+pub const DAT_SET_OCTETS: usize = SV_ID_OCTETS + SavAsdu::MAX_TEXT;
 
-pub const REFR_TM_OCTETS: usize = 254;
+pub const REFR_TM_OCTETS: usize = DAT_SET_OCTETS + SavAsdu::MAX_TEXT;
 
-pub const GM_IDENTITY_OCTETS: usize = 262;
+pub const GM_IDENTITY_OCTETS: usize = REFR_TM_OCTETS + 8;
 
-pub const ASDU_OCTETS: usize = 270;
+pub const ASDU_OCTETS: usize = GM_IDENTITY_OCTETS + 8;
 
-// The numbers, and the octets, of 8 ASDUs.
-pub const MAX_NUMBERS: usize = 106;
+// The numbers, and the octets, of the most ASDUs.
+pub const MAX_NUMBERS: usize = HEAD_NUMBERS + SavPdu::MAX_ASDUS * ASDU_NUMBERS;
 
-pub const MAX_OCTETS: usize = 2236;
+pub const MAX_OCTETS: usize = HEAD_OCTETS + SavPdu::MAX_ASDUS * ASDU_OCTETS;

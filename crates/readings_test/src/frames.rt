@@ -1,7 +1,6 @@
 // Frames of generated descriptions.
 use crate::draw::below;
 use crate::draw::draw;
-use ber_encode::Written;
 use rt_services::EthernetHeader;
 use rt_services::OptionalU16;
 use rt_services::Presence;
@@ -9,6 +8,7 @@ use rt_services::SavAsdu;
 use rt_services::SavDataSetConfig;
 use rt_services::SavPdu;
 use rt_services::Vlan;
+use rt_services::Written;
 
 fn vlan(k: u32) -> Vlan {
     if below(k, 10, 2) == 0 {

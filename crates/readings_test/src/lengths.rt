@@ -11,7 +11,7 @@ use crate::pair::place_of;
 use crate::pair::same_counts;
 use crate::pair::same_words;
 use crate::walk;
-use flat_decode::FlatRead;
+use rt_services::FlatRead;
 use rt_services::Refusal;
 use rt_services::SavDataSetConfig;
 use rt_services::SavPdu;

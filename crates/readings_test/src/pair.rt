@@ -2,7 +2,7 @@
 use crate::draw::below;
 use crate::draw::draw;
 use crate::frames;
-use flat_decode::FlatRead;
+use rt_services::FlatRead;
 use rt_services::SavDataSetConfig;
 use rt_services::SavPdu;
 

@@ -14,6 +14,7 @@ use denote.Array.{Array, each}
 use denote.Struct.Declared as struct
 use denote.Enum.Declared as enum
 use Rattle.definition.specs.Frame.{Held, All, Octet, Word, Count, Of, Tag}
+use Rattle.definition.specs.Limits.{maxText}
 use Rattle.rt_services.specs.declared.SavAsdu.{SavAsdu}
 use Rattle.rt_services.specs.declared.SavPdu.{SavPdu}
 use Rattle.rt_services.specs.declared.EthernetHeader.{EthernetHeader}
@@ -53,8 +54,8 @@ asdu-known : (a : SavAsdu) (vs : List Val) → Is (struct.row sav-asdu.the-type)
 asdu-known a vs h =
     let f = h .1 .1 in
     record {
-      svID = octets-known 127 (a .«msv_id») _ (f .0) .each;
-      datSet = octets-known 127 (a .«dat_set_octets») _ (f .1 .1 .0) .each;
+      svID = octets-known maxText (a .«msv_id») _ (f .0) .each;
+      datSet = octets-known maxText (a .«dat_set_octets») _ (f .1 .1 .0) .each;
       refrTm = octets-known 8 (a .«refr_tm_octets») _ (f .1 .1 .1 .1 .1 .1 .0);
       gmIdentity = octets-known 8 (a .«gm_identity_octets») _ (f .1 .1 .1 .1 .1 .1 .1 .0);
       smpRate = number-known (a .«smp_rate») _ (f .1 .1 .1 .1 .1 .1 .1 .1 .0);

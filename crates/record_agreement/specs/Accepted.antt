@@ -12,12 +12,12 @@ use lib.Dec.{ltb}
 use borrow.Author.Tests.{le-ltb, ltb-false, le-leb, leb-true, not-false}
 use Rattle.definition.specs.Limits.{maxChannels, maxPdu, noRoom, tooManyChannels, badDescription, tooLongToWrite}
 use Rattle.definition.specs.Frame.{Form, Description, pduOctets, frameOctets, and, all, fits, writable}
-use Rattle.definition.specs.Back.{and-both}
+use Rattle.definition.specs.Tests.{and-both, and-true, and-false}
 use Rattle.definition.specs.Answers.{accepted, refusal, refuse, allCounts, allQualities, described, sized, encodeSmv, smvSize}
-use Rattle.definition.specs.Held.{length-firstOf}
+use Rattle.definition.specs.HeldLaws.{length-firstOf}
 use Rattle.definition.specs.Samples.{length-zip}
 use Rattle.definition.specs.Agreement.{passed}
-use Rattle.definition.specs.Sizes.{zeroedAsdu, zeroed, frame-length, qualityFits, and-true, and-false, fits-is, writable-is, first-zeros, rest-zeros}
+use Rattle.definition.specs.Sizes.{zeroedAsdu, zeroed, frame-length, qualityFits, fits-is, writable-is, first-zeros, rest-zeros}
 use Rattle.rt_services.specs.declared.SavAsdu.{SavAsdu}
 use Rattle.rt_services.specs.declared.SavPdu.{SavPdu}
 use Rattle.rt_services.specs.declared.EthernetHeader.{EthernetHeader}

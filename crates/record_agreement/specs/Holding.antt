@@ -8,22 +8,24 @@ use lib.ListN.{length}
 use lib.IntN.{ℤ}
 use Rattle.definition.specs.Limits.{maxText, maxSecurity, maxAsdus}
 use Rattle.definition.specs.Frame.{Asdu, Description, Held, All, Octets, Of, AsduTyped, Typed}
-use Rattle.definition.specs.Held.{filledTo, padded, length-filledTo}
+use Rattle.definition.specs.Held.{filledTo, padded}
+use Rattle.definition.specs.HeldLaws.{length-filledTo}
 use Rattle.definition.specs.Answers.{allCounts, allQualities}
 use Rattle.definition.specs.Sound.{all-append, padded-octets}
 use Rattle.definition.specs.Samples.{all-typed}
-use Rattle.rt_services.specs.Describe.{octetsOf, asduRecord, asduRecords, pduRecord, headerRecord, headerIn, pduIn, descriptionOf}
+use Rattle.rt_services.specs.Describe.{asduRecord, asduRecords, pduRecord, headerRecord, headerIn, pduIn, descriptionOf}
+use Rattle.definition.specs.Flat.{orElse}
 use Rattle.rt_services.specs.Laws.{number-back, vlan-back, description-held}
 use Rattle.record_agreement.specs.Widths.{AsduWidths, Widths, all-blank}
 
 -- ---- fields
 
-or-octets : (o : Option (List ℕ)) → Held Octets o → Octets (octetsOf o)
+or-octets : (o : Option (List ℕ)) → Held Octets o → Octets (orElse [] o)
 unfolding Held All
 or-octets none h = tt
 or-octets (some l) h = h
 
-eight : (o : Option (List ℕ)) → Held (Of 8) o → Of 8 (padded 8 (octetsOf o))
+eight : (o : Option (List ℕ)) → Held (Of 8) o → Of 8 (padded 8 (orElse [] o))
 unfolding Held All
 eight none h = record { size = length-filledTo 0 8 [] (omega arith); each = padded-octets 8 [] tt }
 eight (some l) h = record { size = length-filledTo 0 8 l (omega (arith, h .size)); each = padded-octets 8 l (h .each) }
@@ -32,7 +34,7 @@ asdu-widths : (n : ℕ) (a : Asdu) → AsduTyped n a → AsduWidths (asduRecord 
 unfolding asduRecord
 asdu-widths n a t = record {
   svID = padded-octets maxText (a .svID) (t .svID);
-  datSet = padded-octets maxText (octetsOf (a .datSet)) (or-octets (a .datSet) (t .datSet));
+  datSet = padded-octets maxText (orElse [] (a .datSet)) (or-octets (a .datSet) (t .datSet));
   refrTm = eight (a .refrTm) (t .refrTm);
   gmIdentity = eight (a .gmIdentity) (t .gmIdentity);
   smpRate = rw (number-back (a .smpRate)) (t .smpRate);
@@ -60,7 +62,7 @@ typed-widths n d l t =
       vlan = rw (vlan-back (d .vlan)) (t .vlan);
       etherType = t .etherType;
       appid = t .appid;
-      security = padded-octets maxSecurity (octetsOf (d .security)) (or-octets (d .security) (t .security));
+      security = padded-octets maxSecurity (orElse [] (d .security)) (or-octets (d .security) (t .security));
       asdus = all-append AsduWidths (map asduRecord (d .asdus)) _ (records-held n (d .asdus) (t .asdus)) (all-blank (maxAsdus - length (map asduRecord (d .asdus))));
       counts = c .0;
       qualities = c .1;

@@ -15,9 +15,9 @@ use Rattle.rt_services.specs.declared.SavPdu.{SavPdu}
 use Rattle.rt_services.specs.declared.EthernetHeader.{EthernetHeader}
 use Rattle.rt_services.specs.Describe.{pduRecord, pduIn, descriptionOf}
 use Rattle.rt_services.specs.Same.{LongEnough}
-use Rattle.ber_encode.specs.declared.Written.the-variants as written
-use Rattle.decode_smv.specs.declared.SavRead.{SavRead}
-use Rattle.decode_smv.specs.Told.{savRead, frameRead}
+use Rattle.rt_services.specs.declared.Written.the-variants as written
+use Rattle.rt_services.specs.declared.SavRead.{SavRead}
+use Rattle.rt_services.specs.Told.{savRead, frameRead}
 use Rattle.strict_smv.specs.Cases.{strict-number}
 use Rattle.strict_smv.specs.Record.{pduOfRead}
 use Rattle.strict_smv.specs.Strict.{refused-number, describes-as}
@@ -64,7 +64,7 @@ returned-long {form} {n} {cs′} {qs′} {r} cs qs d l i ec eq a fc fq =
     record { counts = rw m (omega arith); qualities = rw m (omega arith) }
 
 -- what strict reading accepts: a description d and Length l
-pub record Found (form : Form) (n : ℕ) (s : List ℕ) (cs cs′ : List ℤ) (qs qs′ : List ℕ) (r : SavRead) (d : Description) (l : ℕ) : Type 0 where
+pub record StrictlyRead (form : Form) (n : ℕ) (s : List ℕ) (cs cs′ : List ℤ) (qs qs′ : List ℕ) (r : SavRead) (d : Description) (l : ℕ) : Type 0 where
   pub strict : strictRead form n (length cs) (length qs) s ≡ readAs d l
   pub description : Accepted form n d
   pub frame : frameOctets form d ≡ s
@@ -87,7 +87,7 @@ module _ {form : Form} {n : ℕ} {s : List ℕ} {cs cs′ : List ℤ} {qs qs′ 
           absurd (omega (arith, strict-number form n (length cs) (length qs) s e))
       go (accepted x) e = (x, e)
 
-  found-of : Octets s → (d : Description) (l : ℕ) → strictRead form n (length cs) (length qs) s ≡ readAs d l → Found form n s cs cs′ qs qs′ r d l
+  found-of : Octets s → (d : Description) (l : ℕ) → strictRead form n (length cs) (length qs) s ≡ readAs d l → StrictlyRead form n s cs cs′ qs qs′ r d l
   found-of bytes d l e =
       let (a, fc, fq, f) = accepted-is-frame form n (length cs) (length qs) s bytes d l e in
       let i : r ≡ frameRead (readAs d l) = c .meets .read ∙ rw e in
@@ -106,5 +106,5 @@ module _ {form : Form} {n : ℕ} {s : List ℕ} {cs cs′ : List ℤ} {qs qs′ 
         qualities-fit = fq;
       }
 
-  pub found : Octets s → r .number ≡ 0 → (x : Description × ℕ) × Found form n s cs cs′ qs qs′ r (x .0) (x .1)
+  pub found : Octets s → r .number ≡ 0 → (x : Description × ℕ) × StrictlyRead form n s cs cs′ qs qs′ r (x .0) (x .1)
   found bytes z = let (x, e) = accepts z in (x, found-of bytes (x .0) (x .1) e)

@@ -20,15 +20,14 @@ use Rattle.rt_services.specs.declared.EthernetHeader.{EthernetHeader}
 use Rattle.rt_services.specs.Describe.{headerRecord, pduRecord, headerIn, pduIn, descriptionOf}
 use Rattle.rt_services.specs.Same.{Same, LongEnough}
 use Rattle.rt_services.specs.Equal.{same-described, described-same}
-use Rattle.ber_encode.specs.declared.Written.{Written}
-use Rattle.ber_encode.specs.declared.Written.the-variants as written
-use Rattle.ber_encode.specs.Told.{told}
-use Rattle.decode_smv.specs.declared.SavRead.{SavRead}
-use Rattle.decode_smv.specs.Told.{frameRead}
+use Rattle.rt_services.specs.declared.Written.{Written}
+use Rattle.rt_services.specs.declared.Written.the-variants as written
+use Rattle.rt_services.specs.Told.{toldWritten, frameRead}
+use Rattle.rt_services.specs.declared.SavRead.{SavRead}
 use Rattle.strict_smv.specs.Record.{pduOfRead}
 use Rattle.strict_smv.specs.Strict.{saved-number, describes-as}
 use Rattle.record_agreement.specs.Widths.{Widths}
-use Rattle.record_agreement.specs.Calls.{Encodes, Measures, ReadsStrictly, ReadsFrame}
+use Rattle.record_agreement.specs.Calls.{Encodes, Measures, ReadsStrictly, ReadsOrdinarily}
 use Rattle.record_agreement.specs.Accepted.{taken-encode, described-count, described-samples, encode-sized, sized-encode}
 use Rattle.record_agreement.specs.Holding.{typed-widths, held-description, held-count}
 use Rattle.record_agreement.specs.Results.{encoded, encoded-accepted, returned-long, accepts, found}
@@ -71,7 +70,7 @@ write-then-read {form} {n} {h} {p} {cs} {qs} {old} {new} {size} {cs₀} {cs′} 
 -- for them: the writer answers their number, and the buffer starts with them and is otherwise as it was.
 pub read-then-write : {form : Form} {n : ℕ} {s : List ℕ} {cs cs′ : List ℤ} {qs qs′ : List ℕ} {r : SavRead} {old new : List ℕ} {w : Written}
     → Octets s → ReadsStrictly form n s cs cs′ qs qs′ r → r .number ≡ 0 → length s ≤ length old → Encodes form n (r .header) (pduOfRead r) cs′ qs′ old new w
-    → (told w ≡ accepted (length s)) × (new ≡ over old 0 s)
+    → (toldWritten w ≡ accepted (length s)) × (new ≡ over old 0 s)
 read-then-write {form} {n} {s} {cs} {cs′} {qs} {qs′} {r} {old} {new} {w} bytes c z room g =
     let ((d, l), f) = found c bytes z in
     let d′ : Description = descriptionOf n (r .header) (pduOfRead r) cs′ qs′ in
@@ -146,7 +145,7 @@ accepted-exactly {form} {n} {s} {cs} {cs′} {qs} {qs′} {r} bytes c = (to, fro
 -- (4) Ordinary reading then gives the same. Of octets that strict reading accepts, with the same arrays lent, ordinary reading answers
 -- the same record and leaves the same in both arrays.
 pub ordinary-same : {form : Form} {n : ℕ} {s : List ℕ} {cs cs′ cs″ : List ℤ} {qs qs′ qs″ : List ℕ} {r r′ : SavRead}
-    → ReadsStrictly form n s cs cs′ qs qs′ r → r .number ≡ 0 → ReadsFrame n s cs cs″ qs qs″ r′ → (r′ ≡ r) × (cs″ ≡ cs′) × (qs″ ≡ qs′)
+    → ReadsStrictly form n s cs cs′ qs qs′ r → r .number ≡ 0 → ReadsOrdinarily n s cs cs″ qs qs″ r′ → (r′ ≡ r) × (cs″ ≡ cs′) × (qs″ ≡ qs′)
 ordinary-same {form} {n} {s} {cs} {cs′} {cs″} {qs} {qs′} {qs″} {r} {r′} c z o = let (x, e) = accepts c z in go x e
   where
     go : (x : Description × ℕ) → strictRead form n (length cs) (length qs) s ≡ accepted x → (r′ ≡ r) × (cs″ ≡ cs′) × (qs″ ≡ qs′)
@@ -198,7 +197,7 @@ read-in-two-forms {form} {form′} {n} {s} {cs} {cs′} {cs″} {qs} {qs′} {qs
 
 -- (7) The size. "smv_size equals the octets written."
 pub write-sized : {form : Form} {n : ℕ} {h : EthernetHeader} {p : SavPdu} {cs : List ℤ} {qs old new : List ℕ} {size : ℕ} {w : Written}
-    → Encodes form n h p cs qs old new (written.At size) → Measures form n h p w → told w ≡ accepted size
+    → Encodes form n h p cs qs old new (written.At size) → Measures form n h p w → toldWritten w ≡ accepted size
 write-sized {form} {n} {h} {p} {cs} {qs} {old} c m =
     let e = encoded c in
     m .said ∙ encode-sized n h p cs qs (e .long) form (length old) (e .answer)
@@ -207,5 +206,5 @@ write-sized {form} {n} {h} {p} {cs} {qs} {old} c m =
 -- words is 2^13 or more.
 pub size-enough : {form : Form} {n : ℕ} {h : EthernetHeader} {p : SavPdu} {cs : List ℤ} {qs old new : List ℕ} {size : ℕ} {w : Written}
     → Measures form n h p (written.At size) → LongEnough n p cs qs → size ≤ length old → Encodes form n h p cs qs old new w
-    → told w ≡ refuse (not (all qualityFits (take (p .«no_asdu» * n) qs))) badDescription (accepted size)
+    → toldWritten w ≡ refuse (not (all qualityFits (take (p .«no_asdu» * n) qs))) badDescription (accepted size)
 size-enough {form} {n} {h} {p} {cs} {qs} {old} m long room c = c .said ∙ sized-encode n h p cs qs long form (length old) (sym (m .said)) room

@@ -11,7 +11,8 @@ use lib.Dec.{lit<}
 use Rattle.definition.specs.Limits.{maxText}
 use Rattle.definition.specs.Frame.{Held, All, Octet, Word, Octets, Of, Count, Tag, AsduTyped, Typed}
 use Rattle.definition.specs.Answers.{described}
-use Rattle.definition.specs.Held.{heldOctets, firstOf, length-firstOf}
+use Rattle.definition.specs.Held.{heldOctets, firstOf}
+use Rattle.definition.specs.HeldLaws.{length-firstOf}
 use Rattle.definition.specs.Sound.{all-take, all-drop, all-append, all-zeros}
 use Rattle.definition.specs.Samples.{length-zip, all-zip}
 use Rattle.rt_services.specs.declared.SavAsdu.{SavAsdu}

@@ -8,15 +8,15 @@ ghost use mathlib.Core.Path.{_≡_};
 ghost use Prim.Native.Nat.{ℕ, _*_, _≤_};
 ghost use lib.ListN.{length};
 ghost use Rattle.definition.specs.Answers.{accepted, over};
-ghost use Rattle.ber_encode.specs.declared.Written.the-variants as written;
-ghost use Rattle.ber_encode.specs.Told.{told};
+ghost use Rattle.rt_services.specs.declared.Written.the-variants as written;
+ghost use Rattle.rt_services.specs.Told.{toldWritten};
 ghost use Rattle.record_agreement.specs.Calls.{Encodes, ReadsStrictly};
 ghost use Rattle.record_agreement.specs.Theorems.{Returned};
-use ber_encode::Written;
-use decode_smv::SavRead;
 use rt_services::EthernetHeader;
 use rt_services::Refusal;
 use rt_services::SavPdu;
+use rt_services::SavRead;
+use rt_services::Written;
 
 // What the two calls answered; of the call that is not made, because the first is refused, a refusal
 // with the number 0.
@@ -75,7 +75,7 @@ pub fn read_then_write(
 ) -> Answers
     ensures read { λ a. ⌜ ReadsStrictly fixed channels (now (s .entry)) (now (counts .entry)) (now (counts .exit)) (now (qualities .entry)) (now (qualities .exit)) (a .read) ⌝ }
     ensures write { λ a. ⌜ (a .read .number ≡ 0 → length (now (s .entry)) ≤ length (now (frame .entry))
-        → (told (a .written) ≡ accepted (length (now (s .entry)))) × (now (frame .exit) ≡ over (now (frame .entry)) 0 (now (s .entry)))) ⌝ }
+        → (toldWritten (a .written) ≡ accepted (length (now (s .entry)))) × (now (frame .exit) ≡ over (now (frame .entry)) 0 (now (s .entry)))) ⌝ }
 {
     let read = strict_smv::read_strict(s, channels, fixed, counts, qualities);
     if 0 < read.number {

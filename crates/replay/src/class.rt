@@ -74,7 +74,7 @@ pub const WIDE_QUALITY: usize = 24;
 // Alike by the writer of counts; ASDUs with different scale factors can't be described to the writer of values.
 pub const OTHER_SCALES: usize = 25;
 
-// The Rust's sum of index and length overflows, in the integer reader by itself; ours is refusal 1 at the index.
+// The Rust's sum of index and length overflows, in the integer reader by itself; ours is refusal 1 at the buffer length.
 pub const PANIC_SUM: usize = 26;
 
 // Alike, and strict reading accepts it: it is what the writer writes again in the shortest form, in the fixed form, or in
@@ -156,7 +156,9 @@ fn print_described(class: usize) {
 fn print_form(class: usize) {
     match class {
         25 => say(b"answered alike, scale factors that differ: by the writer of counts"),
-        26 => say(b"the Rust panics, index plus length of 2^64 or more: refused 1 at the index"),
+        26 => say(
+            b"the Rust panics, index plus length of 2^64 or more: refused 1 at the buffer length",
+        ),
         27 => say(b"answered alike, strict reading accepts it in the shortest form"),
         28 => say(
             b"answered alike, strict reading accepts it in the shortest form, text that isn't UTF-8",

@@ -6,6 +6,7 @@ use crate::octets::number32;
 use crate::octets::octet;
 use crate::octets::part;
 use crate::octets::plus;
+use rt_services::Counted;
 use rt_services::EthernetHeader;
 use rt_services::OptionalU16;
 use rt_services::Presence;
@@ -13,7 +14,6 @@ use rt_services::SavAsdu;
 use rt_services::SavDataSetConfig;
 use rt_services::SavPdu;
 use rt_services::Vlan;
-use scaling::Counted;
 use types::Quality;
 
 // Elements of the arrays that are lent to the writer: above ten ASDUs of 24 channels.

@@ -15,7 +15,7 @@ use ber_decode::Cursor;
 use ber_decode::Head;
 use ber_decode::Number;
 use ber_decode::Width;
-use ber_encode::Written;
+use rt_services::Written;
 
 fn put_head(out: &mut [u8], head: Head) -> usize {
     match head {
@@ -69,7 +69,7 @@ pub fn integer(request: &[u8], theirs: &[u8], out: &mut [u8]) -> usize {
     class::alike(first(out, at), theirs)
 }
 
-// The Rust panics at the end of the buffer, or where index plus length is 2^64 or more; there our place is the index.
+// The Rust panics at the end of the buffer, or where index plus length is 2^64 or more. Our place is the buffer length.
 fn panicked(request: &[u8], theirs: &[u8], ours: &[u8], end: usize) -> usize {
     let index = number64(request, 1);
     if octet(theirs, 1) != 3 {
@@ -78,7 +78,7 @@ fn panicked(request: &[u8], theirs: &[u8], ours: &[u8], end: usize) -> usize {
     if number64(request, 9) <= 18446744073709551615 - index {
         return class::UNEXPLAINED;
     }
-    class::at_end(ours, index, class::PANIC_SUM)
+    class::at_end(ours, end, class::PANIC_SUM)
 }
 
 // The answer of the length writer with its whole buffer.

@@ -20,15 +20,15 @@ use crate::octets::part;
 use crate::octets::plus;
 use crate::reading_class;
 use crate::text;
-use ber_encode::Written;
-use decode_smv::SavRead;
-use ethernet_header::HeaderEnd;
+use ber_decode::Outcome;
 use rt_services::EthernetHeader;
 use rt_services::OptionalU16;
 use rt_services::Presence;
 use rt_services::SavAsdu;
 use rt_services::SavPdu;
+use rt_services::SavRead;
 use rt_services::Vlan;
+use rt_services::Written;
 
 fn put_vlan(out: &mut [u8], at: usize, vlan: Vlan) -> usize {
     match vlan {
@@ -428,7 +428,7 @@ pub fn pdu(request: &[u8], theirs: &[u8], out: &mut [u8]) -> usize {
 pub fn header(request: &[u8], theirs: &[u8], out: &mut [u8]) -> usize {
     let found = ethernet_header::decode_ethernet_header(request);
     let step = found.outcome;
-    let HeaderEnd::Next(next) = step else {
+    let Outcome::Next(next) = step else {
         let refusal = step.refusal();
         let at = put_refusal(out, refusal.number, refusal.place);
         return reading_class::of_header(request, theirs, first(out, at));

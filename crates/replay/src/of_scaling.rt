@@ -9,8 +9,8 @@ use crate::numbers::signed_of;
 use crate::numbers::word_of;
 use crate::octets::first;
 use crate::octets::number32;
+use rt_services::Counted;
 use rt_services::SavDataSetConfig;
-use scaling::Counted;
 
 fn put_counted(out: &mut [u8], counted: Counted) -> usize {
     match counted {

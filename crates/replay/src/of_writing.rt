@@ -7,10 +7,10 @@ use crate::class;
 use crate::description;
 use crate::octets::first;
 use crate::writing_class;
-use ber_encode::Written;
 use rt_services::EthernetHeader;
 use rt_services::SavDataSetConfig;
 use rt_services::SavPdu;
+use rt_services::Written;
 
 // The number of a refusal: 11, where a count can't be had, comes after 8, 7 for the arrays and 9, and before 10.
 fn number_of(number: usize, out_of_range: bool) -> usize {

@@ -8,6 +8,9 @@ use crate::octets::number64;
 use crate::octets::octet;
 use crate::octets::plus;
 use crate::writing_class;
+use rt_services::SavAsdu;
+use rt_services::SavDataSetConfig;
+use rt_services::SavPdu;
 
 // Whether the content at a place is longer than a limit, by the length octets before it, in the form of one octet or of 81,
 // of 82, or of 83.
@@ -44,12 +47,12 @@ fn no_asdu_at(s: &[u8], start: usize) -> usize {
     after_head(s, after_head(s, start))
 }
 
-// Whether noASDU, of so many octets at a place, is above 8.
+// Whether noASDU, of so many octets at a place, is above its limit.
 fn many(s: &[u8], place: usize, octets: usize) -> bool {
     match octets {
         0 => 0x80 <= octet(s, place),
-        1 => 8 < octet(s, place),
-        2 => 8 < number16(s, place),
+        1 => SavPdu::MAX_ASDUS < octet(s, place) as usize,
+        2 => SavPdu::MAX_ASDUS < number16(s, place) as usize,
         _ => octets == 3,
     }
 }
@@ -59,7 +62,7 @@ fn no_asdu_octets(s: &[u8], place: usize) -> usize {
     octet(s, less(place, 1)) as usize
 }
 
-// Whether what stands at a place is above its limit: noASDU 8, security 64, svID and datSet 127.
+// Whether what stands at a place is above its limit: noASDU, security, svID or datSet.
 fn above(s: &[u8], start: usize, place: usize) -> bool {
     let no_asdu = no_asdu_at(s, start);
     let octets = no_asdu_octets(s, no_asdu);
@@ -71,9 +74,9 @@ fn above(s: &[u8], start: usize, place: usize) -> bool {
         if octet(s, next) != 0x81 {
             return false;
         }
-        return longer(s, place, 64);
+        return longer(s, place, SavPdu::MAX_SECURITY);
     }
-    longer(s, place, 127)
+    longer(s, place, SavAsdu::MAX_TEXT)
 }
 
 // Refused 4: what stands at the place is above its limit. Where the Rust refuses, it does so there or further on.
@@ -99,10 +102,10 @@ pub fn with_answer(found: usize, answer: &[u8]) -> usize {
     if found != class::LIMIT_ANSWERED {
         return found;
     }
-    if 8 < description::records(answer) {
+    if SavPdu::MAX_ASDUS < description::records(answer) {
         return found;
     }
-    if 64 < description::security_length(answer) {
+    if SavPdu::MAX_SECURITY < description::security_length(answer) {
         return found;
     }
     if writing_class::has_long_text(answer) {
@@ -201,7 +204,7 @@ pub fn of_header(s: &[u8], theirs: &[u8], ours: &[u8]) -> usize {
 // The class of the frame reader's answers.
 pub fn class_of_frame(s: &[u8], channels: usize, theirs: &[u8], ours: &[u8]) -> usize {
     let answer = after(theirs, 1);
-    if channels <= 24 {
+    if channels <= SavDataSetConfig::MAX_CHANNELS {
         if lacks_header(s) {
             return of_header(s, theirs, ours);
         }
@@ -214,7 +217,7 @@ pub fn class_of_frame(s: &[u8], channels: usize, theirs: &[u8], ours: &[u8]) -> 
 
 // The class of the answers for a PDU from start on.
 pub fn class_of(s: &[u8], start: usize, channels: usize, theirs: &[u8], ours: &[u8]) -> usize {
-    if 24 < channels {
+    if SavDataSetConfig::MAX_CHANNELS < channels {
         if number16(ours, 0) == 264 {
             if number64(ours, 2) == 0 {
                 return class::MANY_CHANNELS;

@@ -8,7 +8,10 @@ use crate::octets::number32;
 use crate::octets::number64;
 use crate::octets::octet;
 use crate::octets::plus;
-use ber_encode::Written;
+use rt_services::SavAsdu;
+use rt_services::SavDataSetConfig;
+use rt_services::SavPdu;
+use rt_services::Written;
 
 // Whether every ASDU has as many samples as the first.
 fn even(request: &[u8]) -> bool {
@@ -40,12 +43,13 @@ pub fn undescribed(request: &[u8]) -> usize {
     class::ANSWERED
 }
 
-// Whether a text of an ASDU record is above 127 octets.
+// Whether a text of an ASDU record is above the limit.
 fn long_texts(request: &[u8], record: usize) -> bool {
-    if 127 < number16(request, record) {
+    if SavAsdu::MAX_TEXT < number16(request, record) as usize {
         return true;
     }
-    127 < number16(request, plus(description::dat_set_at(request, record), 1))
+    SavAsdu::MAX_TEXT
+        < number16(request, plus(description::dat_set_at(request, record), 1)) as usize
 }
 
 pub fn has_long_text(request: &[u8]) -> bool {
@@ -77,13 +81,13 @@ fn outside(request: &[u8]) -> bool {
     if description::records(request) == 0 {
         return true;
     }
-    if 8 < description::records(request) {
+    if SavPdu::MAX_ASDUS < description::records(request) {
         return true;
     }
     if bad_header(request) {
         return true;
     }
-    if 64 < description::security_length(request) {
+    if SavPdu::MAX_SECURITY < description::security_length(request) {
         return true;
     }
     has_long_text(request)
@@ -137,7 +141,7 @@ fn refused(request: &[u8], theirs: &[u8], ours: &[u8]) -> usize {
             if octet(theirs, 0) != 0 {
                 return class::UNEXPLAINED;
             }
-            if their_pdu(request, theirs) <= 1492 {
+            if their_pdu(request, theirs) <= SavPdu::MAX_OCTETS {
                 return class::UNEXPLAINED;
             }
             class::LONG_PDU
@@ -167,7 +171,7 @@ fn outside_class(request: &[u8], theirs: &[u8]) -> usize {
 
 // The class of two answers; wide: a quality word is of 2^13 or more in the request, and was cleared to what Quality holds.
 pub fn class_of(request: &[u8], theirs: &[u8], ours: &[u8], wide: bool) -> usize {
-    if 24 < description::channels(request) {
+    if SavDataSetConfig::MAX_CHANNELS < description::channels(request) {
         if octet(ours, 1) != 8 {
             return class::UNEXPLAINED;
         }

@@ -1,11 +1,11 @@
 // Scaling cases of document 01 and of the limits of f32, run against `scaling`.
 ghost use mathlib.Core.Path.{_≡_};
 ghost use Rattle.definition.specs.Scaling.{countOf, valuesAnswer};
-ghost use Rattle.scaling.specs.Told.{toldValues};
+ghost use Rattle.rt_services.specs.Told.{toldValues};
 ghost use Rattle.scaling_test.specs.Expected.{asExpected, allExpected, numberOf, writtenOf};
+use rt_services::Counted;
 use rt_services::SavDataSetConfig;
-use scaling::Counted;
-use scaling::Valued;
+use rt_services::Valued;
 
 fn main() {
     halves();

@@ -4,7 +4,7 @@ use crate::frames;
 use crate::history;
 use crate::sum;
 use crate::sum::Seen;
-use flat_decode::FlatRead;
+use rt_services::FlatRead;
 use rt_services::Refusal;
 use rt_services::SavDataSetConfig;
 use set_store::DataSets;

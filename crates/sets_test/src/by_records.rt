@@ -5,12 +5,12 @@ use crate::history;
 use crate::octets::first;
 use crate::sum;
 use crate::sum::Seen;
-use ber_encode::Written;
-use decode_smv::SavRead;
 use read_by_sets::ReadBy;
 use rt_services::Refusal;
 use rt_services::SavDataSetConfig;
 use rt_services::SavPdu;
+use rt_services::SavRead;
+use rt_services::Written;
 use set_store::DataSets;
 
 fn answer_of(read: SavRead) -> Refusal {

@@ -6,7 +6,6 @@ use crate::octets::minus;
 use crate::octets::octet;
 use crate::octets::plus;
 use crate::octets::put;
-use ber_encode::Written;
 use rt_services::EthernetHeader;
 use rt_services::OptionalU16;
 use rt_services::Presence;
@@ -14,6 +13,7 @@ use rt_services::SavAsdu;
 use rt_services::SavDataSetConfig;
 use rt_services::SavPdu;
 use rt_services::Vlan;
+use rt_services::Written;
 
 const KINDS: usize = 13;
 

@@ -13,10 +13,11 @@ use lib.Arith.{digits-div, digits-mod}
 use borrow.Author.Tests.{eqb-true, eq-eqb}
 use Rattle.definition.specs.Limits.{qualityLimit}
 use Rattle.definition.specs.Octets.{octets}
+use Rattle.definition.specs.Frame.{Bytes}
 use Rattle.definition.specs.Read.{beAt}
-use Rattle.types.specs.Bits.{withBits, bitsFrom, andNone, low-bits, bits-below, bits-apart, bits-zero}
-use Rattle.types.specs.Quality.{qualityBits, validityOf, numberOf, qualityOf, wordOf, isGood, good}
-use Rattle.types.specs.Time.{accuracySize, fractionSize, timeQualityOf, octetOf, timestampOf, octetsOf, nanosecondsOf}
+use Rattle.types.specs.BitLaws.{withBits, bitsFrom, andNone, low-bits, bits-below, bits-apart, bits-zero}
+use Rattle.types.specs.Quality.{validityOf, validityNumber, qualityOf, wordOf, isGood, good}
+use Rattle.types.specs.Time.{accuracySize, fractionSize, timeQualityOf, octetOf, timestampOf, timestampOctets, nanosecondsOf}
 use Rattle.types.specs.declared.enumerations.Validity.{Validity}
 use Rattle.types.specs.declared.enumerations.Validity.the-variants.{Good, Invalid, Reserved, Questionable}
 use Rattle.types.specs.declared.types.Quality.{Quality}
@@ -26,14 +27,14 @@ use Rattle.types.specs.declared.types.Timestamp.{Timestamp}
 -- ---- validity
 
 -- a validity and its number determine each other
-pub validity-number : (v : Validity) → validityOf (numberOf v) ≡ v
+pub validity-number : (v : Validity) → validityOf (validityNumber v) ≡ v
 unfolding validityOf
 validity-number Good = refl
 validity-number Invalid = refl
 validity-number Reserved = refl
 validity-number Questionable = refl
 
-pub number-validity : (n : ℕ) → n < 4 → numberOf (validityOf n) ≡ n
+pub number-validity : (n : ℕ) → n < 4 → validityNumber (validityOf n) ≡ n
 unfolding validityOf
 number-validity zero h = refl
 number-validity (suc zero) h = refl
@@ -41,13 +42,13 @@ number-validity (suc (suc zero)) h = refl
 number-validity (suc (suc (suc zero))) h = refl
 number-validity (suc (suc (suc (suc n)))) h = omega arith
 
-pub number-below : (v : Validity) → numberOf v < 4
+pub number-below : (v : Validity) → validityNumber v < 4
 number-below Good = omega arith
 number-below Invalid = omega arith
 number-below Reserved = omega arith
 number-below Questionable = omega arith
 
-good-number : (v : Validity) → isGood v ≡ eqb (numberOf v) 0
+good-number : (v : Validity) → isGood v ≡ eqb (validityNumber v) 0
 good-number Good = refl
 good-number Invalid = refl
 good-number Reserved = refl
@@ -92,7 +93,7 @@ flags-back : (q : Quality) → ofFlags (q .validity) (flagsOf q) ≡ q
 unfolding ofFlags flagsOf
 flags-back q = refl
 
-word-bits : (q : Quality) → wordOf q ≡ withBits (numberOf (q .validity)) 2 (flagsOf q)
+word-bits : (q : Quality) → wordOf q ≡ withBits (validityNumber (q .validity)) 2 (flagsOf q)
 unfolding withBits flagsOf
 word-bits q = refl
 
@@ -100,25 +101,21 @@ word-flags : (w : ℕ) → flagsOf (qualityOf w) ≡ bitsFrom 2 11 w
 unfolding flagsOf qualityOf bitsFrom
 word-flags w = refl
 
--- the word of a word's quality is the word without bits 13 to 31
-pub word-quality : (w : ℕ) → wordOf (qualityOf w) ≡ w % 2 ^ qualityBits
+-- the word of a word's quality is what reading hands back of it: "from_sv drops bits 13 to 31, and so does reading"
+pub word-quality : (w : ℕ) → wordOf (qualityOf w) ≡ w % qualityLimit
 unfolding qualityOf
 word-quality w = word-bits (qualityOf w) ∙ rw (number-validity (w % 4) (omega arith), word-flags w) (low-bits 11 2 w)
 
--- and so what reading hands back of it: "from_sv drops bits 13 to 31, and so does reading"
-pub word-read : (w : ℕ) → wordOf (qualityOf w) ≡ w % qualityLimit
-word-read w = word-quality w
-
--- the word of a quality has thirteen bits
-pub word-below : (q : Quality) → wordOf q < 2 ^ qualityBits
+-- the word of a quality is within the limit
+pub word-below : (q : Quality) → wordOf q < qualityLimit
 unfolding flagsOf
-word-below q = rw (word-bits q) (bits-below (flagsOf q) 2 (numberOf (q .validity)) (number-below (q .validity)))
+word-below q = rw (word-bits q) (bits-below (flagsOf q) 2 (validityNumber (q .validity)) (number-below (q .validity)))
 
 -- two qualities with one word are equal
 pub same-word : (p q : Quality) → wordOf p ≡ wordOf q → p ≡ q
 unfolding flagsOf
 same-word p q e =
-    let s = bits-apart (flagsOf p) (flagsOf q) 2 (numberOf (p .validity)) (numberOf (q .validity)) refl (number-below (p .validity)) (number-below (q .validity)) (sym (word-bits p) ∙ e ∙ word-bits q) in
+    let s = bits-apart (flagsOf p) (flagsOf q) 2 (validityNumber (p .validity)) (validityNumber (q .validity)) refl (number-below (p .validity)) (number-below (q .validity)) (sym (word-bits p) ∙ e ∙ word-bits q) in
     let v : p .validity ≡ q .validity = sym (validity-number (p .validity)) ∙ ap validityOf (s .0) ∙ validity-number (q .validity) in
     sym (flags-back p) ∙ rw (v, s .1) (flags-back q)
 
@@ -129,14 +126,14 @@ quality-word q = same-word (qualityOf (wordOf q)) q (word-quality (wordOf q) ∙
 -- the test of each field is the test of the word
 pub good-word : (q : Quality) → good q ≡ eqb (wordOf q) 0
 unfolding good flagsOf andNone
-good-word q = rw (word-bits q, bits-zero (flagsOf q) 2 (numberOf (q .validity)), ← good-number (q .validity))
+good-word q = rw (word-bits q, bits-zero (flagsOf q) 2 (validityNumber (q .validity)), ← good-number (q .validity))
 
--- good exactly where all thirteen bits are 0
+-- good exactly where all bits are 0
 pub good-exactly : (q : Quality) → (good q ≡ true → wordOf q ≡ 0) × (wordOf q ≡ 0 → good q ≡ true)
 good-exactly q = (λ g. eqb-true (wordOf q) 0 (sym (good-word q) ∙ g), λ e. good-word q ∙ eq-eqb (wordOf q) 0 e)
 
--- of a word: good exactly where its low thirteen bits are 0
-pub good-of-word : (w : ℕ) → (good (qualityOf w) ≡ true → w % 2 ^ qualityBits ≡ 0) × (w % 2 ^ qualityBits ≡ 0 → good (qualityOf w) ≡ true)
+-- of a word: good exactly where the bits within the limit are 0
+pub good-of-word : (w : ℕ) → (good (qualityOf w) ≡ true → w % qualityLimit ≡ 0) × (w % qualityLimit ≡ 0 → good (qualityOf w) ≡ true)
 good-of-word w =
     let e = word-quality w in
     let g = good-exactly (qualityOf w) in
@@ -197,12 +194,8 @@ time-octet-all t h = time-octet t ∙ rw (mod-eq-of-lt h)
 
 -- ---- timestamp
 
--- every element is an octet
-abbrev pub Octets : List ℕ → Type 0
-Octets s = (i : ℕ) → getD s i 0 < 256
-
 -- the octets of the number that n octets make are those octets
-pub octets-be : (n : ℕ) (s : List ℕ) (at : ℕ) → Octets s → at + n ≤ length s → octets n (beAt s at n) ≡ take n (drop at s)
+pub octets-be : (n : ℕ) (s : List ℕ) (at : ℕ) → Bytes s → at + n ≤ length s → octets n (beAt s at n) ≡ take n (drop at s)
 unfolding octets beAt
 octets-be zero s at o h = refl
 octets-be (suc n) s at o h =
@@ -223,8 +216,8 @@ parts s l =
     ap (λ (r : List ℕ). take 4 s ++ (take 3 (drop 4 s) ++ r)) last ∙ ap (λ (r : List ℕ). take 4 s ++ r) rest ∙ take-append-drop 4 s
 
 -- the octets of the timestamp of eight octets are those octets
-pub octets-timestamp : (s : List ℕ) → length s ≡ 8 → Octets s → octetsOf (timestampOf s) ≡ s
-unfolding octetsOf timestampOf
+pub octets-timestamp : (s : List ℕ) → length s ≡ 8 → Bytes s → timestampOctets (timestampOf s) ≡ s
+unfolding timestampOctets timestampOf
 octets-timestamp s l o =
     rw (octets-be 4 s 0 o (omega arith), octets-be 3 s 4 o (omega arith), octet-time (getD s 7 0) (o 7)) (parts s l)
 
@@ -237,15 +230,15 @@ sentTimestamp t = record {
 }
 
 -- the timestamp of a timestamp's octets is what they carry of it
-pub timestamp-octets : (t : Timestamp) → timestampOf (octetsOf t) ≡ sentTimestamp t
-unfolding timestampOf octetsOf octets beAt
+pub timestamp-octets : (t : Timestamp) → timestampOf (timestampOctets t) ≡ sentTimestamp t
+unfolding timestampOf timestampOctets octets beAt
 timestamp-octets t =
-    let a : beAt (octetsOf t) 0 4 ≡ t .seconds % 2 ^ 32 = omega arith in
-    let b : beAt (octetsOf t) 4 3 ≡ t .fraction % 2 ^ 24 = omega arith in
+    let a : beAt (timestampOctets t) 0 4 ≡ t .seconds % 2 ^ 32 = omega arith in
+    let b : beAt (timestampOctets t) 4 3 ≡ t .fraction % 2 ^ 24 = omega arith in
     rw (a, b, time-octet (t .quality))
 
 -- all of it, where its fields have the bits that are sent
-pub timestamp-octets-all : (t : Timestamp) → t .seconds < 2 ^ 32 → t .fraction < 2 ^ fractionSize → t .quality .«time_accuracy» < 2 ^ accuracySize → timestampOf (octetsOf t) ≡ t
+pub timestamp-octets-all : (t : Timestamp) → t .seconds < 2 ^ 32 → t .fraction < 2 ^ fractionSize → t .quality .«time_accuracy» < 2 ^ accuracySize → timestampOf (timestampOctets t) ≡ t
 timestamp-octets-all t s f a = timestamp-octets t ∙ rw (mod-eq-of-lt s, mod-eq-of-lt f, mod-eq-of-lt a)
 
 -- ---- nanoseconds

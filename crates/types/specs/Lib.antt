@@ -1,4 +1,5 @@
 pub mod Bits
+pub mod BitLaws
 pub mod Quality
 pub mod Time
 pub mod Laws

@@ -7,19 +7,15 @@ use Rattle.types.specs.declared.enumerations.Validity.{Validity}
 use Rattle.types.specs.declared.enumerations.Validity.the-variants.{Good, Invalid, Reserved, Questionable}
 use Rattle.types.specs.declared.types.Quality.{Quality}
 
--- how many bits a quality has: document 01, "`from_sv` drops bits 13 to 31"
-abbrev pub qualityBits : ℕ
-qualityBits = 13
-
 -- IEC 61850-7-2, validity: good 0, invalid 1, reserved 2, questionable 3
 unfoldable pub validityOf : ℕ → Validity
 validityOf n = cond (eqb n 0) Good (cond (eqb n 1) Invalid (cond (eqb n 2) Reserved Questionable))
 
-abbrev pub numberOf : Validity → ℕ
-numberOf Good = 0
-numberOf Invalid = 1
-numberOf Reserved = 2
-numberOf Questionable = 3
+abbrev pub validityNumber : Validity → ℕ
+validityNumber Good = 0
+validityNumber Invalid = 1
+validityNumber Reserved = 2
+validityNumber Questionable = 3
 
 -- the quality of a word: document 01, "Validity is bits 0 to 1; the eleven flags are bits 2 to 12 in the file's order"
 unfoldable pub qualityOf : ℕ → Quality
@@ -41,7 +37,7 @@ qualityOf w = record {
 -- the word of a quality: the same bits, and no other
 abbrev pub wordOf : Quality → ℕ
 wordOf q =
-    numberOf (q .validity)
+    validityNumber (q .validity)
     + weight 2 (q .overflow)
     + weight 3 (q .«out_of_range»)
     + weight 4 (q .«bad_reference»)

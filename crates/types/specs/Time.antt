@@ -50,8 +50,8 @@ timestampOf s = record {
 }
 
 -- the eight octets of a timestamp
-unfoldable pub octetsOf : Timestamp → List ℕ
-octetsOf t = octets 4 (t .seconds) ++ (octets 3 (t .fraction) ++ (octetOf (t .quality) ∷ []))
+unfoldable pub timestampOctets : Timestamp → List ℕ
+timestampOctets t = octets 4 (t .seconds) ++ (octets 3 (t .fraction) ++ (octetOf (t .quality) ∷ []))
 
 -- document 01, "nanoseconds of a 24-bit fraction f, the whole part of f × 1,000,000,000 / 2^24; of a larger f the low 24
 -- bits count"

@@ -1,7 +1,7 @@
 // Enumerations of IEC 61850-7-2.
 ghost use mathlib.Core.Path.{_≡_};
 ghost use Prim.Native.Nat.{_%_, _<_};
-ghost use Rattle.types.specs.Quality.{validityOf, numberOf, isGood};
+ghost use Rattle.types.specs.Quality.{validityOf, validityNumber, isGood};
 
 // Validity of a value, numbered 0 to 3 in this order.
 pub enum Validity {
@@ -27,7 +27,7 @@ impl Validity {
 
     // Its number.
     pub fn to_sv(self) -> u32
-        ensures { λ r. ⌜ r ≡ numberOf self ⌝ }
+        ensures { λ r. ⌜ r ≡ validityNumber self ⌝ }
         ensures { λ r. ⌜ r < 4 ⌝ }
     {
         match self {

@@ -3,7 +3,7 @@ ghost use mathlib.Core.Path.{_≡_};
 ghost use Prim.Native.Nat.{_+_, _*_, _≤_};
 ghost use mathlib.Core.Bool.{cond};
 ghost use Rattle.types.specs.Quality.{qualityOf, wordOf, good};
-ghost use Rattle.types.specs.Time.{timeQualityOf, octetOf, accuracyBitsOf, timestampOf, octetsOf, nanosecondsOf};
+ghost use Rattle.types.specs.Time.{timeQualityOf, octetOf, accuracyBitsOf, timestampOf, timestampOctets, nanosecondsOf};
 use crate::enumerations::Validity;
 
 // Quality of a sampled value: its validity, bits 0 and 1 of the quality word, and eleven flags, bits 2 to 12 in this order.
@@ -170,7 +170,7 @@ impl Timestamp {
 
     // Its octets. The low 24 bits of fraction count.
     pub fn to_bytes(self) -> TimestampOctets
-        ensures { λ r. ⌜ r ≡ octetsOf self ⌝ }
+        ensures { λ r. ⌜ r ≡ timestampOctets self ⌝ }
     {
         let s = self.seconds;
         let f = self.fraction;

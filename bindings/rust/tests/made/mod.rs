@@ -1,5 +1,6 @@
 //! Frames of few octets, frames that the library writes, and damage to them.
 
+use hopsickle::sys::{MAX_ASDUS, MAX_SECURITY, MAX_TEXT};
 use hopsickle::{encode_counts, EthernetHeader, Form, Quality, Refusal, Sample, SavAsdu, SavPdu};
 use oracle::frame::{integer, length_octets};
 use oracle::generate::{Random, FIRST_LENGTH_OCTETS};
@@ -31,7 +32,7 @@ pub fn framed(channels: usize, asdus: &[(u32, &[u8])]) -> Vec<u8> {
 }
 
 fn text(random: &mut Random) -> String {
-    let most = if random.percent(10) { 127 } else { 12 };
+    let most = if random.percent(10) { MAX_TEXT } else { 12 };
     (0..random.among(0, most)).map(|_| random.pick(b"ABCxyz019_/$") as char).collect()
 }
 
@@ -48,13 +49,13 @@ fn asdu(random: &mut Random, channels: usize) -> SavAsdu {
     asdu.smp_rate = random.percent(50).then(|| random.draw() as u16);
     asdu.smp_mod = random.percent(50).then(|| random.draw() as u16);
     asdu.gm_identity = random.percent(50).then(|| random.draw().to_be_bytes());
-    let sample = |_| Sample::new(0.0, Quality::from_sv(random.draw() as u32 & 0x1fff), 1.0);
+    let sample = |_| Sample::new(0.0, Quality::from_sv(random.draw() as u32), 1.0);
     asdu.all_data = (0..channels).map(sample).collect();
     asdu
 }
 
-/// A frame of so many channels as the library writes it, of one to eight ASDUs as far as they fit, each
-/// altered before, by its index.
+/// A frame of so many channels as the library writes it, of one to `MAX_ASDUS` ASDUs as far as they fit,
+/// each altered before, by its index.
 pub fn written(
     random: &mut Random,
     channels: usize,
@@ -68,14 +69,15 @@ pub fn written(
         ether_type: [0x88, 0xba],
         ..EthernetHeader::default()
     };
-    let security = random.percent(30).then(|| vec![random.draw() as u8; random.among(0, 64)]);
-    let most = random.pick(&[1, 8]);
+    let security =
+        random.percent(30).then(|| vec![random.draw() as u8; random.among(0, MAX_SECURITY)]);
+    let most = random.pick(&[1, MAX_ASDUS]);
     let mut asdus: Vec<SavAsdu> =
         (0..random.among(1, most)).map(|_| asdu(random, channels)).collect();
     asdus.iter_mut().enumerate().for_each(|(i, asdu)| alter(i, asdu));
     let mut pdu =
         SavPdu { sim: random.percent(50), security, sav_asdu: asdus, ..SavPdu::default() };
-    let counts: Vec<i32> = (0..8 * channels).map(|_| random.draw() as i32).collect();
+    let counts: Vec<i32> = (0..MAX_ASDUS * channels).map(|_| random.draw() as i32).collect();
     let form = random.pick(&[Form::Shortest, Form::Fixed]);
     loop {
         pdu.no_asdu = pdu.sav_asdu.len() as u16;

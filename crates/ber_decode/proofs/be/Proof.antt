@@ -6,8 +6,6 @@ use Rattle.definition.specs.Read.{beAt}
 use Rattle.ber_decode.specs.Cases.{be-more, be-none, pow-three, digit-more}
 use Rattle.ber_decode.proofs.be.Statement.{statement}
 use Rattle.ber_decode.proofs.be.Tie as tie
-use Rattle.ber_decode.proofs.be.Reads as reads
-use Rattle.ber_decode.proofs.be.Lts as lts
 
 abbrev Inv-loop : tie.InvT-loop
 Inv-loop s at n value₀ i₀ value i = (i ≤ n) × (value ≡ beAt s at i) × (value < 256 ^ i)

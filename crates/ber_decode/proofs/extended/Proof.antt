@@ -6,10 +6,6 @@ use Rattle.ber_decode.specs.Cases.{filled-lt}
 use borrow.Author.Needs.{needs}
 use Rattle.ber_decode.proofs.extended.Statement.{statement}
 use Rattle.ber_decode.proofs.extended.Tie as tie
-use Rattle.ber_decode.proofs.extended.Reads as reads
-use Rattle.ber_decode.proofs.extended.Lts as lts
-use Rattle.ber_decode.proofs.be.Reads as be-reads
-use Rattle.ber_decode.proofs.power.Reads as power-reads
 
 be-requires : tie.Need-be-requires
 be-requires c κs = search needs

@@ -1,23 +1,19 @@
 -- integer_of: each return is a case of numberAt.
 use native.Mathlib.Omega.{arith}
 use mathlib.Core.Path.{sym}
-use Rattle.ber_decode.specs.Cases.{number-none, number-cut, number-plain, number-signed, number-long, number-full, number-idle, number-front}
+use Rattle.ber_decode.specs.Cases.{number-none-at, number-cut-at, number-plain, number-signed, number-long, number-full, number-idle, number-front}
 use borrow.Author.Needs.{needs}
 use Rattle.ber_decode.proofs.integer_of.Statement.{statement}
 use Rattle.ber_decode.proofs.integer_of.Tie as tie
-use Rattle.ber_decode.proofs.integer_of.Reads as reads
-use Rattle.ber_decode.proofs.integer_of.Lts as lts
-use Rattle.ber_decode.proofs.be.Reads as be-reads
-use Rattle.ber_decode.proofs.extended.Reads as extended-reads
 
 returns : tie.Need-returns
-returns c = sym (number-none _ _ _ _ (omega arith))
+returns c = sym (number-none-at _ _ _ _ (omega arith) (omega arith))
 
 sub-if2 : tie.Need-sub-if2
 sub-if2 c = search needs
 
 returns-2 : tie.Need-returns-2
-returns-2 c = sym (number-cut _ _ _ _ (omega arith) (omega arith))
+returns-2 c = sym (number-cut-at _ _ _ _ (omega arith) (omega arith) (omega arith))
 
 shared-slice-read-first : tie.Need-shared-slice-read-first
 shared-slice-read-first c = search needs

@@ -4,8 +4,6 @@ use mathlib.Core.Path.{_≡_}
 use native.Mathlib.Omega.{arith}
 use Rattle.ber_decode.proofs.power.Statement.{statement}
 use Rattle.ber_decode.proofs.power.Tie as tie
-use Rattle.ber_decode.proofs.power.Reads as reads
-use Rattle.ber_decode.proofs.power.Lts as lts
 
 four : (n : ℕ) → n ≤ 4 → (n ≡ 0 → ⊥) → (n ≡ 1 → ⊥) → (n ≡ 2 → ⊥) → (n ≡ 3 → ⊥) → n ≡ 4
 four n h a b d e = omega arith

@@ -4,7 +4,8 @@ use Prim.Native.Nat.{_+_}
 use native.Mathlib.Omega.{arith}
 use borrow.Author.Needs.{needs}
 use lib.ListN.{length}
-use Rattle.definition.specs.Octets.{tlv, uintOctets, length-uintOctets}
+use Rattle.definition.specs.Octets.{tlv, uintOctets}
+use Rattle.definition.specs.OctetLaws.{length-uintOctets}
 use Rattle.definition.specs.Answers.{encodeBer}
 use Rattle.ber_encode.specs.Size.{lengthSize, uint-room}
 use Rattle.ber_encode.specs.Told.{written, refusedAs, none-refused, refused-it, wrote-it}

@@ -2,7 +2,7 @@
 use mathlib.Core.Path.{sym}
 use native.Mathlib.Omega.{arith}
 use lib.Seq.{length-take-le}
-use Rattle.definition.specs.Held.{firstOf-take}
+use Rattle.definition.specs.HeldLaws.{firstOf-take}
 use borrow.Author.Needs.{needs}
 use Rattle.ber_encode.proofs.put_held.Statement.{statement}
 use Rattle.ber_encode.proofs.put_held.Tie as tie

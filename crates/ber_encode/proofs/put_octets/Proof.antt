@@ -7,7 +7,8 @@ use native.Mathlib.Nat.{add-zero}
 use native.Mathlib.Omega.{arith}
 use lib.ListN.{length, set, length-set}
 use Rattle.ber_encode.specs.Put.{put, put-front}
-use Rattle.definition.specs.Octets.{octets, length-octets}
+use Rattle.definition.specs.Octets.{octets}
+use Rattle.definition.specs.OctetLaws.{length-octets}
 use Rattle.ber_encode.proofs.put_octets.Statement.{statement}
 use Rattle.ber_encode.proofs.put_octets.Tie as tie
 

@@ -4,7 +4,7 @@ use Prim.Native.Nat.{_+_}
 use native.Mathlib.Omega.{arith}
 use lib.ListN.{length-set}
 use Rattle.ber_encode.specs.Put.{andThen, one-wrote}
-use Rattle.definition.specs.Octets.{lengthMore-le, length-short, length-long}
+use Rattle.definition.specs.OctetLaws.{lengthMore-le, length-short, length-long}
 use Rattle.ber_encode.specs.Size.{size-short, size-long}
 use borrow.Author.Needs.{needs}
 use Rattle.ber_encode.proofs.put_tag_length.Statement.{statement}

@@ -1,6 +1,7 @@
 -- `ber_encode::put_uint` meets its contract: the octets of its content with their tag. Assumes nothing.
 use native.Mathlib.Omega.{arith}
-use Rattle.definition.specs.Octets.{uintOctets, uintSize-le}
+use Rattle.definition.specs.Octets.{uintOctets}
+use Rattle.definition.specs.OctetLaws.{uintSize-le}
 use borrow.Author.Needs.{needs}
 use Rattle.ber_encode.proofs.put_uint.Statement.{statement}
 use Rattle.ber_encode.proofs.put_uint.Tie as tie

@@ -2,7 +2,7 @@
 use mathlib.Core.Path.{sym, ap, _∙_}
 use Prim.Native.Nat.{ℕ, _+_}
 use native.Mathlib.Omega.{arith}
-use Rattle.definition.specs.Octets.{lengthMore-le}
+use Rattle.definition.specs.OctetLaws.{lengthMore-le}
 use Rattle.ber_encode.specs.Size.{size-short, size-long}
 use borrow.Author.Needs.{needs}
 use Rattle.ber_encode.proofs.size_length.Statement.{statement}

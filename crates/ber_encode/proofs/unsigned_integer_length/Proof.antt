@@ -8,7 +8,8 @@ use borrow.Author.Needs.{needs}
 use borrow.Author.Tests.{lt-ltb, le-ltb}
 use lib.Count.{leadingZeros, leading-le, leading-length}
 use lib.Pow.{pow-mono}
-use Rattle.definition.specs.Octets.{uintSize, lt-or-ge}
+use Rattle.definition.specs.Octets.{uintSize}
+use Rattle.definition.specs.OctetLaws.{lt-or-ge}
 use Rattle.ber_encode.proofs.unsigned_integer_length.Statement.{statement}
 use Rattle.ber_encode.proofs.unsigned_integer_length.Tie as tie
 

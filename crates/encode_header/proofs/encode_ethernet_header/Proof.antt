@@ -5,9 +5,9 @@ use mathlib.Core.Path.{_≡_}
 use Prim.Native.Nat.{_+_, _≤_}
 use native.Mathlib.Omega.{arith}
 use lib.ListN.{length}
-use Rattle.encode_header.specs.Header.{tagOctets, headerOctets, smv-octets, length-header, header-fits}
+use Rattle.encode_header.specs.Header.{tagOctets, headerWritten, smv-octets, length-header, header-fits}
 use Rattle.ber_encode.specs.Put.{andThen}
-use Rattle.definition.specs.Octets.{length-octets}
+use Rattle.definition.specs.OctetLaws.{length-octets}
 use Rattle.encode_header.proofs.encode_ethernet_header.Statement.{statement}
 use Rattle.encode_header.proofs.encode_ethernet_header.Tie as tie
 
@@ -69,7 +69,7 @@ same-length : tie.Need-same-length
 same-length c = search needs
 
 returns : tie.Need-returns
-unfolding headerOctets
+unfolding headerWritten
 returns c =
     let s = c .before .before .before .before .before .before .before .before .before .before .before .before .before .before .before .before .before .before .before .before .before .before .before .before .before .before .before .before .before .before .before .before .before .before .before in
     rw (header-fits (s .args .header) (s .pre .0) .0, smv-octets)

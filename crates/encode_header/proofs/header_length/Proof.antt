@@ -5,7 +5,7 @@ use mathlib.Core.Path.{_≡_, ap, _∙_}
 use Prim.Native.Nat.{ℕ, _+_}
 use lib.ListN.{length}
 use native.Mathlib.Omega.{arith}
-use Rattle.encode_header.specs.Header.{tagOctets, untagged, length-tagged, length-header, headerOctets}
+use Rattle.encode_header.specs.Header.{tagOctets, untagged, length-tagged, length-header, headerWritten}
 use Rattle.encode_header.proofs.header_length.Statement.{statement}
 use Rattle.encode_header.proofs.header_length.Tie as tie
 
@@ -15,7 +15,7 @@ dst-long c = search needs
 src-long : (c : tie.Start) → length (c .args .header .«src_addr») ≡ 6
 src-long c = search needs
 
-length-with : (c : tie.Start) (sim : Bool) (len m : ℕ) → length (tagOctets (c .args .header .vlan)) ≡ m → 22 + m ≡ length (headerOctets (c .args .header) sim len)
+length-with : (c : tie.Start) (sim : Bool) (len m : ℕ) → length (tagOctets (c .args .header .vlan)) ≡ m → 22 + m ≡ length (headerWritten (c .args .header) sim len)
 length-with c sim len m e = omega (arith, e, length-header (c .args .header) sim len (dst-long c) (src-long c))
 
 enum-told : tie.Need-enum-told

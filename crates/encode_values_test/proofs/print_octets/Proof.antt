@@ -1,6 +1,6 @@
 -- `encode_values_test::print_octets`: the measure is the number of octets left. Assumes nothing.
 use borrow.Author.Needs.{needs}
-use Prim.Native.Nat.{ℕ, _-_}
+use Prim.Native.Nat.{_-_}
 use native.Mathlib.Omega.{arith}
 use lib.ListN.{length}
 use Rattle.encode_values_test.proofs.print_octets.Statement.{statement}

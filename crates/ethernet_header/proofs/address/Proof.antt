@@ -3,8 +3,6 @@ use Rattle.ethernet_header.specs.Header.{six}
 use borrow.Author.Needs.{needs}
 use Rattle.ethernet_header.proofs.address.Statement.{statement}
 use Rattle.ethernet_header.proofs.address.Tie as tie
-use Rattle.ethernet_header.proofs.address.Reads as reads
-use Rattle.ethernet_header.proofs.address.Lts as lts
 
 shared-slice-read-t4 : tie.Need-shared-slice-read-t4
 shared-slice-read-t4 c = search needs

@@ -1,15 +1,10 @@
 -- decode_ethernet_header: by the test for a VLAN tag, then by the length.
 use mathlib.Core.Path.{sym, _∙_, ap}
-use Rattle.ethernet_header.specs.Header.{headerRead, header-tagged, header-untagged, header-no}
+use Rattle.ethernet_header.specs.Header.{header-tagged, header-untagged, header-no}
+use Rattle.ethernet_header.specs.Told.{headerRead}
 use borrow.Author.Needs.{needs}
 use Rattle.ethernet_header.proofs.decode_ethernet_header.Statement.{statement}
 use Rattle.ethernet_header.proofs.decode_ethernet_header.Tie as tie
-use Rattle.ethernet_header.proofs.decode_ethernet_header.Reads as reads
-use Rattle.ethernet_header.proofs.decode_ethernet_header.Lts as lts
-use Rattle.ethernet_header.proofs.header_from.Reads as header-from-reads
-use Rattle.ethernet_header.proofs.is_tagged.Reads as is-tagged-reads
-use Rattle.ethernet_header.proofs.no_header.Reads as no-header-reads
-use Rattle.ethernet_header.proofs.number16.Reads as number16-reads
 
 is-tagged-requires : tie.Need-is-tagged-requires
 is-tagged-requires c κs = search needs

@@ -4,8 +4,6 @@ use Rattle.ethernet_header.specs.Header.{bit-none}
 use borrow.Author.Needs.{needs}
 use Rattle.ethernet_header.proofs.first_bit.Statement.{statement}
 use Rattle.ethernet_header.proofs.first_bit.Tie as tie
-use Rattle.ethernet_header.proofs.first_bit.Reads as reads
-use Rattle.ethernet_header.proofs.first_bit.Lts as lts
 
 returns : tie.Need-returns
 returns c = sym (bit-none (c .before .args .s .now) (c .before .args .at) (c .if1 .taken))

@@ -3,10 +3,6 @@ use Rattle.ethernet_header.specs.Header.{header-yes}
 use borrow.Author.Needs.{needs}
 use Rattle.ethernet_header.proofs.header_from.Statement.{statement}
 use Rattle.ethernet_header.proofs.header_from.Tie as tie
-use Rattle.ethernet_header.proofs.header_from.Reads as reads
-use Rattle.ethernet_header.proofs.header_from.Lts as lts
-use Rattle.ethernet_header.proofs.address.Reads as address-reads
-use Rattle.ethernet_header.proofs.number16.Reads as number16-reads
 
 address-requires : tie.Need-address-requires
 address-requires c κs = search needs

@@ -4,10 +4,6 @@ use Rattle.ethernet_header.specs.Header.{smv-tagged, smv-untagged}
 use borrow.Author.Needs.{needs}
 use Rattle.ethernet_header.proofs.is_smv_frame.Statement.{statement}
 use Rattle.ethernet_header.proofs.is_smv_frame.Tie as tie
-use Rattle.ethernet_header.proofs.is_smv_frame.Reads as reads
-use Rattle.ethernet_header.proofs.is_smv_frame.Lts as lts
-use Rattle.ethernet_header.proofs.is_tagged.Reads as is-tagged-reads
-use Rattle.ethernet_header.proofs.pair_at.Reads as pair-at-reads
 
 is-tagged-requires : tie.Need-is-tagged-requires
 is-tagged-requires c κs = search needs

@@ -1,13 +1,9 @@
 -- is_tagged: two octets are 81 00 where their number is.
 use mathlib.Core.Path.{_∙_}
 use Rattle.ethernet_header.specs.Header.{tagged-is}
-use mathlib.Core.Path.{_∙_}
 use borrow.Author.Needs.{needs}
 use Rattle.ethernet_header.proofs.is_tagged.Statement.{statement}
 use Rattle.ethernet_header.proofs.is_tagged.Tie as tie
-use Rattle.ethernet_header.proofs.is_tagged.Reads as reads
-use Rattle.ethernet_header.proofs.is_tagged.Lts as lts
-use Rattle.ethernet_header.proofs.pair_at.Reads as pair-at-reads
 
 pair-at-requires : tie.Need-pair-at-requires
 pair-at-requires c κs = search needs

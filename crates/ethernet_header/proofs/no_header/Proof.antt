@@ -2,11 +2,9 @@
 use mathlib.Core.Path.{refl}
 use Rattle.rt_services.specs.Describe.{headerRecord}
 use Rattle.definition.specs.Read.{blankHeader}
-use Rattle.ethernet_header.specs.Header.{noHeader}
+use Rattle.ethernet_header.specs.Told.{noHeader}
 use Rattle.ethernet_header.proofs.no_header.Statement.{statement}
 use Rattle.ethernet_header.proofs.no_header.Tie as tie
-use Rattle.ethernet_header.proofs.no_header.Reads as reads
-use Rattle.ethernet_header.proofs.no_header.Lts as lts
 
 returns : tie.Need-returns
 unfolding noHeader blankHeader headerRecord

@@ -3,9 +3,6 @@ use Rattle.ber_decode.specs.Cases.{be-lt}
 use borrow.Author.Needs.{needs}
 use Rattle.ethernet_header.proofs.number16.Statement.{statement}
 use Rattle.ethernet_header.proofs.number16.Tie as tie
-use Rattle.ethernet_header.proofs.number16.Reads as reads
-use Rattle.ethernet_header.proofs.number16.Lts as lts
-use Rattle.ber_decode.proofs.be.Reads as be-reads
 
 be-requires : tie.Need-be-requires
 be-requires c κs = search needs

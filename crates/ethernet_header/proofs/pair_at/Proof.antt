@@ -5,8 +5,6 @@ use Rattle.ethernet_header.specs.Header.{pair-short, pair-first, pair-bo
 use borrow.Author.Needs.{needs}
 use Rattle.ethernet_header.proofs.pair_at.Statement.{statement}
 use Rattle.ethernet_header.proofs.pair_at.Tie as tie
-use Rattle.ethernet_header.proofs.pair_at.Reads as reads
-use Rattle.ethernet_header.proofs.pair_at.Lts as lts
 
 returns : tie.Need-returns
 returns c = sym (pair-short _ _ _ _ (omega arith))

@@ -4,10 +4,6 @@ use Rattle.ethernet_header.specs.Header.{simulation-tagged, simulation-u
 use borrow.Author.Needs.{needs}
 use Rattle.ethernet_header.proofs.simulation.Statement.{statement}
 use Rattle.ethernet_header.proofs.simulation.Tie as tie
-use Rattle.ethernet_header.proofs.simulation.Reads as reads
-use Rattle.ethernet_header.proofs.simulation.Lts as lts
-use Rattle.ethernet_header.proofs.first_bit.Reads as first-bit-reads
-use Rattle.ethernet_header.proofs.is_tagged.Reads as is-tagged-reads
 
 is-tagged-requires : tie.Need-is-tagged-requires
 is-tagged-requires c κs = search needs

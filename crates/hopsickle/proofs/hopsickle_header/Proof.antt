@@ -1,9 +1,9 @@
 -- `hopsickle::hopsickle_header` meets its contract: each way out is one of the laws of specs/Crosses. Assumes nothing.
-use mathlib.Core.Path.{_≡_, refl, sym, ap, _∙_}
-use native.Mathlib.Omega.{arith}
+use mathlib.Core.Path.{ap, _∙_}
 use Rattle.rt_services.specs.Laws.{header-held}
 use Rattle.rt_services.specs.Describe.{headerOf}
-use Rattle.decode_smv.specs.Frame.{Headed, headed}
+use Rattle.decode_smv.specs.Frame.{headed}
+use Rattle.decode_smv.specs.Frame.{no-header}
 use Rattle.hopsickle.specs.Crosses as crosses
 use borrow.Author.Needs.{needs}
 use Rattle.hopsickle.proofs.hopsickle_header.Statement.{statement}
@@ -24,7 +24,7 @@ refusal-requires c κs = search needs
 returns : tie.Need-returns
 returns c =
     rw (c .refusal .ensures, c .before .enum-told .given .1)
-    (crosses.header-refused _ _ _ _ _ _ _ (crosses.header-not _ _ (c .before .before .before .decode-ethernet-header .ensures) (c .before .enum-told .given .1)))
+    (crosses.header-refused _ _ _ _ _ _ _ (no-header _ (c .before .before .before .decode-ethernet-header .ensures) (c .before .enum-told .given .1)))
 
 returns-2 : tie.Need-returns-2
 returns-2 c =

@@ -3,10 +3,6 @@ use Rattle.hopsickle.specs.Crosses as crosses
 use borrow.Author.Needs.{needs}
 use Rattle.hopsickle.proofs.hopsickle_read_by_sets.Statement.{statement}
 use Rattle.hopsickle.proofs.hopsickle_read_by_sets.Tie as tie
-use Rattle.hopsickle.proofs.hopsickle_read_by_sets.Reads as reads
-use Rattle.hopsickle.proofs.hopsickle_read_by_sets.Lts as lts
-use Rattle.flat_by_sets.proofs.read_by_sets.Reads as read-by-sets-reads
-use Rattle.hopsickle.proofs.answer.Reads as answer-reads
 
 read-by-sets-requires : tie.Need-read-by-sets-requires
 read-by-sets-requires c κs = search needs

@@ -3,10 +3,6 @@ use Rattle.hopsickle.specs.Crosses as crosses
 use borrow.Author.Needs.{needs}
 use Rattle.hopsickle.proofs.hopsickle_sets_add.Statement.{statement}
 use Rattle.hopsickle.proofs.hopsickle_sets_add.Tie as tie
-use Rattle.hopsickle.proofs.hopsickle_sets_add.Reads as reads
-use Rattle.hopsickle.proofs.hopsickle_sets_add.Lts as lts
-use Rattle.flat_encode.proofs.data_set.Reads as data-set-reads
-use Rattle.set_store.proofs.add_to.Reads as add-to-reads
 
 returns : tie.Need-returns
 returns c =

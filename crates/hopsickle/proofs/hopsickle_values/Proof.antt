@@ -1,8 +1,7 @@
 -- `hopsickle::hopsickle_values` meets its contract: 8 where there are too many scale factors, else the answer of `values_of` of their
 -- data set. Assumes nothing.
-use mathlib.Core.Path.{_≡_, refl, sym, ap, _∙_}
-use native.Mathlib.Omega.{arith}
-use Rattle.scaling.specs.Told.{toldValues}
+use mathlib.Core.Path.{ap}
+use Rattle.rt_services.specs.Told.{toldValues}
 use Rattle.hopsickle.specs.Crosses as crosses
 use borrow.Author.Needs.{needs}
 use Rattle.hopsickle.proofs.hopsickle_values.Statement.{statement}

@@ -1,7 +1,5 @@
 -- `hopsickle::hopsickle_write_values` meets its contract: the answer of the writer, as two numbers. Assumes nothing.
 use Rattle.hopsickle.specs.Crosses as crosses
-use mathlib.Core.Path.{_≡_, _∙_, ap}
-use Rattle.definition.specs.Answers.{leaves}
 use borrow.Author.Needs.{needs}
 use Rattle.hopsickle.proofs.hopsickle_write_values.Statement.{statement}
 use Rattle.hopsickle.proofs.hopsickle_write_values.Tie as tie

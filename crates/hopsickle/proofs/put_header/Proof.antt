@@ -6,7 +6,7 @@ use Prim.Native.Nat.{ℕ}
 use native.Mathlib.Omega.{arith}
 use lib.ListN.{length, take, replicate}
 use Rattle.definition.specs.Answers.{over}
-use Rattle.definition.specs.Flat.{headerNumbers}
+use Rattle.definition.specs.Flat.{headerNumbers, maxNumbers}
 use Rattle.ber_encode.specs.Put.{length-put}
 use Rattle.hopsickle.specs.Crosses.{header-numbers, header-octets}
 use borrow.Author.Needs.{needs}
@@ -24,7 +24,7 @@ put-head-requires c κs = search needs
 
 copy-requires : tie.Need-copy-requires
 copy-requires c κs =
-    (omega arith, (omega (arith, ap length (c .before .before .put-head .ensures) ∙ length-put (replicate 106 0) 0 _), c .before .before .before .before .before .before .pre .0))
+    (omega arith, (omega (arith, ap length (c .before .before .put-head .ensures) ∙ length-put (replicate maxNumbers 0) 0 _), c .before .before .before .before .before .before .pre .0))
 
 slice-aggregate-put-bytes : tie.Need-slice-aggregate-put-bytes
 slice-aggregate-put-bytes c = search needs
@@ -49,7 +49,7 @@ returns c =
     let s = c .before .before .before .before .before .before .before .before .before .before .before .before .before .before .before .before .before .before .before .before .before in
     let a = s .args in (
       c .before .before .before .before .before .before .before .before .before .before .before .before .before .before .copy .ensures
-          ∙ ap (λ (l : List ℕ). over (a .numbers .now) 0 l) (ap (λ (l : List ℕ). take headerNumbers l) (c .before .before .before .before .before .before .before .before .before .before .before .before .before .before .before .before .before .put-head .ensures) ∙ header-numbers (a .header) (replicate 106 0) refl),
+          ∙ ap (λ (l : List ℕ). over (a .numbers .now) 0 l) (ap (λ (l : List ℕ). take headerNumbers l) (c .before .before .before .before .before .before .before .before .before .before .before .before .before .before .before .before .before .put-head .ensures) ∙ header-numbers (a .header) (replicate maxNumbers 0) refl),
       rw (c .before .before .put-bytes2 .ensures .list, c .before .before .before .before .before .before .before .put-bytes .ensures .list) (header-octets (a .header) (a .octets .now) (dst-long s) (src-long s) (s .pre .1)),
     )
 

@@ -3,11 +3,6 @@ use Prim.Native.Nat.{_-_}
 use borrow.Author.Needs.{needs}
 use Rattle.readings_test.proofs.print_checked.Statement.{statement}
 use Rattle.readings_test.proofs.print_checked.Tie as tie
-use Rattle.readings_test.proofs.print_checked.Reads as reads
-use Rattle.readings_test.proofs.print_checked.Lts as lts
-use Rattle.readings_test.proofs.lengths.answer.Reads as answer-reads
-use Rattle.readings_test.proofs.more.Reads as more-reads
-use Rattle.readings_test.proofs.print_line.Reads as print-line-reads
 
 abbrev Inv-loop : tie.InvT-loop
 Inv-loop accepted₀ first₀ later₀ refused₀ wrong₀ k₀ t7 t8 t9 t10 t11 t12 accepted first later refused wrong k = Unit {0}

@@ -3,11 +3,6 @@ use Prim.Native.Nat.{_-_}
 use borrow.Author.Needs.{needs}
 use Rattle.readings_test.proofs.print_pairs.Statement.{statement}
 use Rattle.readings_test.proofs.print_pairs.Tie as tie
-use Rattle.readings_test.proofs.print_pairs.Reads as reads
-use Rattle.readings_test.proofs.print_pairs.Lts as lts
-use Rattle.readings_test.proofs.more.Reads as more-reads
-use Rattle.readings_test.proofs.pair.answer.Reads as answer-reads
-use Rattle.readings_test.proofs.print_line.Reads as print-line-reads
 
 abbrev Inv-loop : tie.InvT-loop
 Inv-loop accepted₀ refused₀ same₀ differ₀ k₀ t6 t7 t8 t9 t10 accepted refused same differ k = Unit {0}

@@ -7,9 +7,9 @@ use borrow.Author.Needs.{needs}
 use Rattle.definition.specs.Frame.{Word}
 use Rattle.definition.specs.Sound.{all-known}
 use Rattle.rt_services.specs.declared.Refusal.{Refusal}
-use Rattle.ber_encode.specs.declared.Written.{Written}
-use Rattle.ber_encode.specs.declared.Written.the-variants as written
-use Rattle.ber_encode.specs.Told.{told}
+use Rattle.rt_services.specs.declared.Written.{Written}
+use Rattle.rt_services.specs.declared.Written.the-variants as written
+use Rattle.rt_services.specs.Told.{toldWritten}
 use Rattle.record_agreement.specs.Calls.{Encodes}
 use Rattle.record_agreement.specs.Results.{encoded}
 use Rattle.record_agreement.specs.Theorems.{write-then-read}
@@ -49,7 +49,7 @@ slice-reshare-prefix-read-strict c =
     let a = c .before .before .before .before .before .before .before .before .before .before .before .args in
     let q = c .before .before .before .before .before .encode-smv in
     let w : Encodes (a .fixed) (a .channels) (a .header) (a .pdu) (a .counts .now) (a .qualities .now) (a .frame .now) (q .last .1 .1 .1 .1 .1 .1 .0) (written.At (c .before .written .given .0 .0))
-    = record { said = ap told (sym (c .before .written .given .1)) ∙ q .ensures .0; left = q .ensures .1 } in
+    = record { said = ap toldWritten (sym (c .before .written .given .1)) ∙ q .ensures .0; left = q .ensures .1 } in
     encoded w .within
 
 slice-aggregate-read-strict : tie.Need-slice-aggregate-read-strict
@@ -57,7 +57,7 @@ slice-aggregate-read-strict c =
     let a = c .before .before .before .before .before .before .before .before .before .before .before .before .args in
     let q = c .before .before .before .before .before .before .encode-smv in
     let w : Encodes (a .fixed) (a .channels) (a .header) (a .pdu) (a .counts .now) (a .qualities .now) (a .frame .now) (q .last .1 .1 .1 .1 .1 .1 .0) (written.At (c .before .before .written .given .0 .0))
-    = record { said = ap told (sym (c .before .before .written .given .1)) ∙ q .ensures .0; left = q .ensures .1 } in
+    = record { said = ap toldWritten (sym (c .before .before .written .given .1)) ∙ q .ensures .0; left = q .ensures .1 } in
     sym (length-take-le _ _ (encoded w .within))
 
 read-strict-requires : tie.Need-read-strict-requires
@@ -77,7 +77,7 @@ returns-2 c =
     let a = c .before .before .before .before .before .before .before .before .before .before .before .before .before .before .before .before .before .before .args in
     let q = c .before .before .before .before .before .before .before .before .before .before .before .before .encode-smv in
     let w : Encodes (a .fixed) (a .channels) (a .header) (a .pdu) (a .counts .now) (a .qualities .now) (a .frame .now) (q .last .1 .1 .1 .1 .1 .1 .0) (written.At (c .before .before .before .before .before .before .before .before .written .given .0 .0))
-    = record { said = ap told (sym (c .before .before .before .before .before .before .before .before .written .given .1)) ∙ q .ensures .0; left = q .ensures .1 } in
+    = record { said = ap toldWritten (sym (c .before .before .before .before .before .before .before .before .written .given .1)) ∙ q .ensures .0; left = q .ensures .1 } in
     let qualities = all-known Word 0 (a .qualities .now) (λ i. omega (arith, c .before .before .before .before .before .before .before .before .before .before .before .before .before .before .before .before .before .shared-slice-known .given i)) in
     let widths = known (a .header) (a .pdu) (a .counts .now) (a .qualities .now) _ _ (c .before .before .before .before .before .before .before .before .before .before .before .before .before .before .before .before .before .before .good .0) (c .before .before .before .before .before .before .before .before .before .before .before .before .before .before .before .before .before .before .good .1 .0) (c .before .before .before .before .before .before .before .before .before .before .before .before .before .before .counts .ensures) qualities in
     (w, λ size e lc lq. write-then-read widths w lc lq (record { meets = c .before .before .before .read-strict .ensures }))

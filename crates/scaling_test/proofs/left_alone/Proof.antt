@@ -5,7 +5,7 @@ use lib.Ieee.{ofBits, eq}
 use Rattle.definition.specs.Answers.{refusal}
 use Rattle.definition.specs.Scaling.{valuesAnswer}
 use Rattle.rt_services.specs.DataSet.{le92}
-use Rattle.scaling.specs.Told.{toldValues}
+use Rattle.rt_services.specs.Told.{toldValues}
 use Rattle.scaling_test.proofs.left_alone.Statement.{statement}
 use Rattle.scaling_test.proofs.left_alone.Tie as tie
 

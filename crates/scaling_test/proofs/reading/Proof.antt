@@ -6,7 +6,7 @@ use lib.Ieee.{mul, ofInt, ofBits, neg, eq}
 use Rattle.definition.specs.Answers.{accepted, over}
 use Rattle.definition.specs.Scaling.{valueOf, upTo, valuesOf, valuesAnswer}
 use Rattle.rt_services.specs.DataSet.{le92}
-use Rattle.scaling.specs.Told.{toldValues}
+use Rattle.rt_services.specs.Told.{toldValues}
 use Rattle.scaling_test.proofs.reading.Statement.{statement}
 use Rattle.scaling_test.proofs.reading.Tie as tie
 

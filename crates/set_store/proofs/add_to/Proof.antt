@@ -5,11 +5,6 @@ use Rattle.set_store.specs.Added.{added-many, added-low, added-full, add
 use borrow.Author.Needs.{needs}
 use Rattle.set_store.proofs.add_to.Statement.{statement}
 use Rattle.set_store.proofs.add_to.Tie as tie
-use Rattle.set_store.proofs.add_to.Reads as reads
-use Rattle.set_store.proofs.add_to.Lts as lts
-use Rattle.set_store.proofs.held.Reads as held-reads
-use Rattle.set_store.proofs.is_higher.Reads as is-higher-reads
-use Rattle.set_store.proofs.put_set.Reads as put-set-reads
 
 returns : tie.Need-returns
 returns c = added-many _ _ _ _ (c .if1 .taken)

@@ -7,11 +7,6 @@ use Rattle.set_store.specs.Held.{found-at, not-found}
 use borrow.Author.Needs.{needs}
 use Rattle.set_store.proofs.find_set.Statement.{statement}
 use Rattle.set_store.proofs.find_set.Tie as tie
-use Rattle.set_store.proofs.find_set.Reads as reads
-use Rattle.set_store.proofs.find_set.Lts as lts
-use Rattle.set_store.proofs.held.Reads as held-reads
-use Rattle.set_store.proofs.position.Reads as position-reads
-use Rattle.set_store.proofs.set_at.Reads as set-at-reads
 
 position-requires : tie.Need-position-requires
 position-requires c κs = search needs

@@ -7,9 +7,6 @@ use Rattle.data_sets.specs.DataSets.{heldIn}
 use Rattle.set_store.specs.Held.{aboveFrom, above-end, above-stop, above-next}
 use Rattle.set_store.proofs.is_higher.Statement.{statement}
 use Rattle.set_store.proofs.is_higher.Tie as tie
-use Rattle.set_store.proofs.is_higher.Reads as reads
-use Rattle.set_store.proofs.is_higher.Lts as lts
-use Rattle.set_store.proofs.held.Reads as held-reads
 
 abbrev Inv-loop : tie.InvT-loop
 Inv-loop numbers conf-rev n i₀ i = (i ≤ n) × (aboveFrom numbers conf-rev 0 (heldIn numbers) ≡ aboveFrom numbers conf-rev i (n - i))

@@ -7,9 +7,6 @@ use Rattle.data_sets.specs.DataSets.{heldIn}
 use Rattle.set_store.specs.Held.{positionFrom, position-end, position-stop, position-next}
 use Rattle.set_store.proofs.position.Statement.{statement}
 use Rattle.set_store.proofs.position.Tie as tie
-use Rattle.set_store.proofs.position.Reads as reads
-use Rattle.set_store.proofs.position.Lts as lts
-use Rattle.set_store.proofs.held.Reads as held-reads
 
 abbrev Inv-loop : tie.InvT-loop
 Inv-loop numbers conf-rev n i₀ i = (i ≤ n) × (positionFrom numbers conf-rev 0 (heldIn numbers) ≡ positionFrom numbers conf-rev i (n - i))

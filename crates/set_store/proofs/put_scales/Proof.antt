@@ -11,8 +11,6 @@ use Rattle.definition.specs.Limits.{maxChannels}
 use Rattle.set_store.specs.Held.{none-taken, one-taken}
 use Rattle.set_store.proofs.put_scales.Statement.{statement}
 use Rattle.set_store.proofs.put_scales.Tie as tie
-use Rattle.set_store.proofs.put_scales.Reads as reads
-use Rattle.set_store.proofs.put_scales.Lts as lts
 
 abbrev Inv-loop : tie.InvT-loop
 Inv-loop scales₀ i set j₀ scales j = (j ≤ maxChannels) × (scales ≡ sets scales₀ (i * maxChannels) (take j (set .«scale_factor»)))

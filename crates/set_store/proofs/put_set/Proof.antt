@@ -3,9 +3,6 @@ use Rattle.set_store.specs.Added.{put-numbers}
 use borrow.Author.Needs.{needs}
 use Rattle.set_store.proofs.put_set.Statement.{statement}
 use Rattle.set_store.proofs.put_set.Tie as tie
-use Rattle.set_store.proofs.put_set.Reads as reads
-use Rattle.set_store.proofs.put_set.Lts as lts
-use Rattle.set_store.proofs.put_scales.Reads as put-scales-reads
 
 add-numbers : tie.Need-add-numbers
 add-numbers c = search needs

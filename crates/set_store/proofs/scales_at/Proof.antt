@@ -10,8 +10,6 @@ use Rattle.definition.specs.Scaling.{upTo}
 use Rattle.set_store.specs.Held.{none-up, one-up}
 use Rattle.set_store.proofs.scales_at.Statement.{statement}
 use Rattle.set_store.proofs.scales_at.Tie as tie
-use Rattle.set_store.proofs.scales_at.Reads as reads
-use Rattle.set_store.proofs.scales_at.Lts as lts
 
 abbrev Inv-loop : tie.InvT-loop
 Inv-loop scales i factors₀ j₀ factors j = (j ≤ maxChannels) × (factors ≡ sets factors₀ 0 (upTo j (λ m. getD scales (i * maxChannels + m) nan)))

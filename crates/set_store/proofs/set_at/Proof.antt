@@ -5,10 +5,6 @@ use Rattle.set_store.specs.Held.{all-up, set-is}
 use borrow.Author.Needs.{needs}
 use Rattle.set_store.proofs.set_at.Statement.{statement}
 use Rattle.set_store.proofs.set_at.Tie as tie
-use Rattle.set_store.proofs.set_at.Reads as reads
-use Rattle.set_store.proofs.set_at.Lts as lts
-use Rattle.set_store.proofs.channels_at.Reads as channels-at-reads
-use Rattle.set_store.proofs.scales_at.Reads as scales-at-reads
 
 scales-at-requires : tie.Need-scales-at-requires
 scales-at-requires c κs = search needs

@@ -5,14 +5,6 @@ use mathlib.Core.Path.{_≡_}
 use borrow.Author.Needs.{needs}
 use Rattle.sets_test.proofs.main.Statement.{statement}
 use Rattle.sets_test.proofs.main.Tie as tie
-use Rattle.sets_test.proofs.main.Reads as reads
-use Rattle.sets_test.proofs.main.Lts as lts
-use Rattle.set_store.proofs.DataSets.empty.Reads as empty-reads
-use Rattle.sets_test.proofs.additions.add.Reads as add-reads
-use Rattle.sets_test.proofs.additions.find_all.Reads as find-all-reads
-use Rattle.sets_test.proofs.history.held_after.Reads as held-after-reads
-use Rattle.sets_test.proofs.read_all.Reads as read-all-reads
-use Rattle.sets_test.proofs.tally.print.Reads as print-reads
 
 abbrev Inv-loop : tie.InvT-loop
 Inv-loop counts₀ sums₀ flat-sums₀ numbers₀ scales₀ store₀ k₀ counts sums flat-sums numbers scales store k =

@@ -5,9 +5,6 @@ use mathlib.Core.Path.{_≡_}
 use borrow.Author.Needs.{needs}
 use Rattle.sets_test.proofs.read_all.Statement.{statement}
 use Rattle.sets_test.proofs.read_all.Tie as tie
-use Rattle.sets_test.proofs.read_all.Reads as reads
-use Rattle.sets_test.proofs.read_all.Lts as lts
-use Rattle.sets_test.proofs.read.Reads as read-reads
 
 abbrev Inv-loop : tie.InvT-loop
 Inv-loop held store numbers scales counts₀ sums₀ flat-sums₀ f₀ counts sums flat-sums f = (length counts ≡ length counts₀) × ((length sums ≡ length sums₀) × (length flat-sums ≡ length flat-sums₀))

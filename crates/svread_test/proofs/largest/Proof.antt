@@ -1,6 +1,6 @@
 -- `svread_test::largest` is safe and ends. The loop's invariant: the array keeps its length. Assumes nothing.
-use mathlib.Core.Path.{_≡_, refl, sym, _∙_}
-use Prim.Native.Nat.{ℕ, _-_, _<_}
+use mathlib.Core.Path.{_≡_, refl, sym}
+use Prim.Native.Nat.{_-_}
 use native.Mathlib.Omega.{arith}
 use lib.ListN.{length, length-set}
 use Rattle.svread_test.proofs.largest.Statement.{statement}

@@ -1,7 +1,7 @@
 -- `types_test::times` meets its contract: what is checked computes from what `from_bytes` and `to_bytes` ensure.
 -- Assumes nothing.
 use borrow.Author.Needs.{needs}
-use Rattle.types.specs.Time.{timestampOf, octetsOf}
+use Rattle.types.specs.Time.{timestampOf, timestampOctets}
 use Rattle.definition.specs.Octets.{octets}
 use Rattle.definition.specs.Read.{beAt}
 use Rattle.types_test.proofs.times.Statement.{statement}
@@ -38,7 +38,7 @@ same-requires : tie.Need-same-requires
 same-requires c κs = search needs
 
 expect-requires-4 : tie.Need-expect-requires-4
-unfolding timestampOf beAt octetsOf octets
+unfolding timestampOf beAt timestampOctets octets
 expect-requires-4 c κs = c .same .ensures .1 (rw (c .before .before .before .to-bytes .ensures, c .before .before .before .before .before .before .before .before .before .before .from-bytes .ensures))
 
 returns : tie.Need-returns

@@ -5,8 +5,6 @@ use Rattle.ber_decode.specs.Cases.{has-end, has-there}
 use borrow.Author.Needs.{needs}
 use Rattle.ber_decode.proofs.Cursor.has.Statement.{statement}
 use Rattle.ber_decode.proofs.Cursor.has.Tie as tie
-use Rattle.ber_decode.proofs.Cursor.has.Reads as reads
-use Rattle.ber_decode.proofs.Cursor.has.Lts as lts
 
 returns : tie.Need-returns
 returns c = sym (has-end _ _ _ (omega arith))

@@ -5,9 +5,6 @@ use Rattle.ber_decode.specs.Cases.{head-none, head-short, head-above, he
 use borrow.Author.Needs.{needs}
 use Rattle.ber_decode.proofs.Cursor.head.Statement.{statement}
 use Rattle.ber_decode.proofs.Cursor.head.Tie as tie
-use Rattle.ber_decode.proofs.Cursor.head.Reads as reads
-use Rattle.ber_decode.proofs.Cursor.head.Lts as lts
-use Rattle.ber_decode.proofs.be.Reads as be-reads
 
 returns : tie.Need-returns
 returns c = sym (head-none _ _ (omega arith))

@@ -1,21 +1,26 @@
--- integer: what integer_of promises, of the octets of the width.
-use Rattle.ber_decode.specs.Cases.{width-in}
+-- integer: a sum of 2^64 or more is refused; else what integer_after promises.
+use native.Mathlib.Omega.{arith}
+use mathlib.Core.Path.{sym, _∙_}
 use borrow.Author.Needs.{needs}
+use borrow.Author.Tests.{leb-true, leb-false}
+use Rattle.ber_decode.specs.Cases.{number-sum}
 use Rattle.ber_decode.proofs.Cursor.integer.Statement.{statement}
 use Rattle.ber_decode.proofs.Cursor.integer.Tie as tie
-use Rattle.ber_decode.proofs.Cursor.integer.Reads as reads
-use Rattle.ber_decode.proofs.Cursor.integer.Lts as lts
-use Rattle.ber_decode.proofs.Width.octets.Reads as octets-reads
-use Rattle.ber_decode.proofs.integer_of.Reads as integer-of-reads
 
-octets-requires : tie.Need-octets-requires
-octets-requires c κs = search needs
+passes-requires : tie.Need-passes-requires
+passes-requires c κs = search needs
 
-integer-of-requires : tie.Need-integer-of-requires
-integer-of-requires c κs = rw (c .octets .ensures) (width-in (c .before .before .args .width))
+beyond-requires : tie.Need-beyond-requires
+beyond-requires c κs = search needs
 
 returns : tie.Need-returns
-returns c = rw (← c .before .octets .ensures) (c .integer-of .ensures)
+returns c = rw (c .beyond .ensures) (sym (number-sum _ _ _ _ (omega arith) (leb-true _ _ (sym (c .before .before .passes .ensures) ∙ c .before .if1 .taken))))
+
+integer-after-requires : tie.Need-integer-after-requires
+integer-after-requires c κs = leb-false _ _ (sym (c .before .passes .ensures) ∙ c .if1 .left)
+
+returns-2 : tie.Need-returns-2
+returns-2 c = search needs
 
 pub integer-spec : {M : Type 1} → statement M
-integer-spec = tie.close (tie.spec octets-requires integer-of-requires returns)
+integer-spec = tie.close (tie.spec passes-requires beyond-requires returns integer-after-requires returns-2)

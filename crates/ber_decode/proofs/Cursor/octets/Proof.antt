@@ -1,31 +1,27 @@
--- octets: each return is a case of spanAt.
+-- octets: a sum of 2^64 or more is refused; else what octets_after promises.
 use native.Mathlib.Omega.{arith}
-use mathlib.Core.Path.{sym, ap}
-use Rattle.ber_decode.specs.Told.{foundSpan}
-use Rattle.ber_decode.specs.Cases.{span-cut, span-long, span-held}
+use mathlib.Core.Path.{sym, ap, _∙_}
 use borrow.Author.Needs.{needs}
+use borrow.Author.Tests.{leb-true, leb-false}
+use Rattle.ber_decode.specs.Told.{foundSpan}
+use Rattle.ber_decode.specs.Cases.{span-sum}
 use Rattle.ber_decode.proofs.Cursor.octets.Statement.{statement}
 use Rattle.ber_decode.proofs.Cursor.octets.Tie as tie
-use Rattle.ber_decode.proofs.Cursor.octets.Reads as reads
-use Rattle.ber_decode.proofs.Cursor.octets.Lts as lts
+
+passes-requires : tie.Need-passes-requires
+passes-requires c κs = search needs
+
+beyond-requires : tie.Need-beyond-requires
+beyond-requires c κs = search needs
 
 returns : tie.Need-returns
-returns c = sym (ap (foundSpan _ _) (span-cut _ _ _ _ _ (omega arith)))
+returns c = rw (c .beyond .ensures) (sym (ap (foundSpan _ _) (span-sum _ _ _ _ _ (omega arith) (leb-true _ _ (sym (c .before .before .passes .ensures) ∙ c .before .if1 .taken)))))
 
-sub-if2 : tie.Need-sub-if2
-sub-if2 c = search needs
+octets-after-requires : tie.Need-octets-after-requires
+octets-after-requires c κs = leb-false _ _ (sym (c .before .passes .ensures) ∙ c .if1 .left)
 
 returns-2 : tie.Need-returns-2
-returns-2 c = sym (ap (foundSpan _ _) (span-cut _ _ _ _ _ (omega arith)))
-
-returns-3 : tie.Need-returns-3
-returns-3 c = sym (ap (foundSpan _ _) (span-long _ _ _ _ _ (omega arith) (omega arith)))
-
-add-t7 : tie.Need-add-t7
-add-t7 c = search needs
-
-returns-4 : tie.Need-returns-4
-returns-4 c = sym (ap (foundSpan _ _) (span-held _ _ _ _ _ (omega arith) (omega arith)))
+returns-2 c = search needs
 
 pub octets-spec : {M : Type 1} → statement M
-octets-spec = tie.close (tie.spec returns sub-if2 returns-2 returns-3 add-t7 returns-4)
+octets-spec = tie.close (tie.spec passes-requires beyond-requires returns octets-after-requires returns-2)

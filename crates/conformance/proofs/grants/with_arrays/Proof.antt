@@ -3,9 +3,6 @@ use lib.Seq.{length-take-le}
 use borrow.Author.Needs.{needs}
 use Rattle.conformance.proofs.grants.with_arrays.Statement.{statement}
 use Rattle.conformance.proofs.grants.with_arrays.Tie as tie
-use Rattle.conformance.proofs.grants.with_arrays.Reads as reads
-use Rattle.conformance.proofs.grants.with_arrays.Lts as lts
-use Rattle.conformance.proofs.grants.reading.Reads as reading-reads
 
 slice-aggregate-counts : tie.Need-slice-aggregate-counts
 slice-aggregate-counts c = search needs

@@ -3,10 +3,6 @@ use Prim.Native.Nat.{_-_}
 use borrow.Author.Needs.{needs}
 use Rattle.conformance.proofs.sets.held.Statement.{statement}
 use Rattle.conformance.proofs.sets.held.Tie as tie
-use Rattle.conformance.proofs.sets.held.Reads as reads
-use Rattle.conformance.proofs.sets.held.Lts as lts
-use Rattle.conformance.proofs.sets.held_line.Reads as held-line-reads
-use Rattle.set_store.proofs.held.Reads as held-reads
 
 abbrev Inv-loop : tie.InvT-loop
 Inv-loop numbers n i₀ i = Unit {0}

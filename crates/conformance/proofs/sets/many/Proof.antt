@@ -3,10 +3,6 @@ use Prim.Native.Nat.{_-_}
 use borrow.Author.Needs.{needs}
 use Rattle.conformance.proofs.sets.many.Statement.{statement}
 use Rattle.conformance.proofs.sets.many.Tie as tie
-use Rattle.conformance.proofs.sets.many.Reads as reads
-use Rattle.conformance.proofs.sets.many.Lts as lts
-use Rattle.conformance.proofs.sets.with.Reads as with-reads
-use Rattle.set_store.proofs.DataSets.empty.Reads as empty-reads
 
 abbrev Inv-loop : tie.InvT-loop
 Inv-loop n store₀ i₀ store i = Unit {0}

@@ -5,9 +5,6 @@ use mathlib.Core.Path.{_≡_}
 use borrow.Author.Needs.{needs}
 use Rattle.readings_test.proofs.frames.fill_words.Statement.{statement}
 use Rattle.readings_test.proofs.frames.fill_words.Tie as tie
-use Rattle.readings_test.proofs.frames.fill_words.Reads as reads
-use Rattle.readings_test.proofs.frames.fill_words.Lts as lts
-use Rattle.readings_test.proofs.frames.drawn.Reads as drawn-reads
 
 abbrev Inv-loop : tie.InvT-loop
 Inv-loop mask channels shown hidden words₀ i₀ words i = length words ≡ length words₀

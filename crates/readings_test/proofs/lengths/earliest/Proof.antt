@@ -3,10 +3,6 @@ use Prim.Native.Nat.{_-_}
 use borrow.Author.Needs.{needs}
 use Rattle.readings_test.proofs.lengths.earliest.Statement.{statement}
 use Rattle.readings_test.proofs.lengths.earliest.Tie as tie
-use Rattle.readings_test.proofs.lengths.earliest.Reads as reads
-use Rattle.readings_test.proofs.lengths.earliest.Lts as lts
-use Rattle.readings_test.proofs.walk.fits.Reads as fits-reads
-use Rattle.readings_test.proofs.walk.no_asdu.Reads as no-asdu-reads
 
 abbrev Inv-loop : tie.InvT-loop
 Inv-loop s channels count i₀ i = Unit {0}

@@ -3,8 +3,6 @@ use lib.Seq.{length-take-le}
 use borrow.Author.Needs.{needs}
 use Rattle.readings_test.proofs.pair.first.Statement.{statement}
 use Rattle.readings_test.proofs.pair.first.Tie as tie
-use Rattle.readings_test.proofs.pair.first.Reads as reads
-use Rattle.readings_test.proofs.pair.first.Lts as lts
 
 slice-aggregate-result : tie.Need-slice-aggregate-result
 slice-aggregate-result c = search (needs, length-take-le)

@@ -4,8 +4,6 @@ use lib.Ieee.{ofBits}
 use Rattle.set_store.specs.Told.{emptyStore}
 use Rattle.set_store.proofs.DataSets.empty.Statement.{statement}
 use Rattle.set_store.proofs.DataSets.empty.Tie as tie
-use Rattle.set_store.proofs.DataSets.empty.Reads as reads
-use Rattle.set_store.proofs.DataSets.empty.Lts as lts
 
 returns : tie.Need-returns
 unfolding emptyStore ofBits

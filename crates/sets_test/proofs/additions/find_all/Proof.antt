@@ -5,9 +5,6 @@ use mathlib.Core.Path.{_≡_}
 use borrow.Author.Needs.{needs}
 use Rattle.sets_test.proofs.additions.find_all.Statement.{statement}
 use Rattle.sets_test.proofs.additions.find_all.Tie as tie
-use Rattle.sets_test.proofs.additions.find_all.Reads as reads
-use Rattle.sets_test.proofs.additions.find_all.Lts as lts
-use Rattle.sets_test.proofs.additions.find.Reads as find-reads
 
 abbrev Inv-loop : tie.InvT-loop
 Inv-loop held store counts₀ row₀ counts row = length counts ≡ length counts₀

@@ -3,8 +3,6 @@ use Prim.Native.Nat.{_-_}
 use borrow.Author.Needs.{needs}
 use Rattle.sets_test.proofs.additions.same_factors.Statement.{statement}
 use Rattle.sets_test.proofs.additions.same_factors.Tie as tie
-use Rattle.sets_test.proofs.additions.same_factors.Reads as reads
-use Rattle.sets_test.proofs.additions.same_factors.Lts as lts
 
 abbrev Inv-loop : tie.InvT-loop
 Inv-loop a b i₀ i = Unit {0}

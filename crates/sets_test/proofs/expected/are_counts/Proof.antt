@@ -4,9 +4,6 @@ use lib.ListN.{length}
 use borrow.Author.Needs.{needs}
 use Rattle.sets_test.proofs.expected.are_counts.Statement.{statement}
 use Rattle.sets_test.proofs.expected.are_counts.Tie as tie
-use Rattle.sets_test.proofs.expected.are_counts.Reads as reads
-use Rattle.sets_test.proofs.expected.are_counts.Lts as lts
-use Rattle.sets_test.proofs.expected.count_if.Reads as count-if-reads
 
 abbrev Inv-loop : tie.InvT-loop
 Inv-loop accepted a b i₀ i = Unit {0}

@@ -4,9 +4,6 @@ use lib.ListN.{length}
 use borrow.Author.Needs.{needs}
 use Rattle.sets_test.proofs.expected.are_octets.Statement.{statement}
 use Rattle.sets_test.proofs.expected.are_octets.Tie as tie
-use Rattle.sets_test.proofs.expected.are_octets.Reads as reads
-use Rattle.sets_test.proofs.expected.are_octets.Lts as lts
-use Rattle.sets_test.proofs.expected.octet_if.Reads as octet-if-reads
 
 abbrev Inv-loop : tie.InvT-loop
 Inv-loop accepted a b i₀ i = Unit {0}

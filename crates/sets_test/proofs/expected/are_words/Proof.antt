@@ -4,9 +4,6 @@ use lib.ListN.{length}
 use borrow.Author.Needs.{needs}
 use Rattle.sets_test.proofs.expected.are_words.Statement.{statement}
 use Rattle.sets_test.proofs.expected.are_words.Tie as tie
-use Rattle.sets_test.proofs.expected.are_words.Reads as reads
-use Rattle.sets_test.proofs.expected.are_words.Lts as lts
-use Rattle.sets_test.proofs.expected.word_if.Reads as word-if-reads
 
 abbrev Inv-loop : tie.InvT-loop
 Inv-loop accepted a b i₀ i = Unit {0}

@@ -3,8 +3,6 @@ use Prim.Native.Nat.{_-_}
 use borrow.Author.Needs.{needs}
 use Rattle.sets_test.proofs.expected.same_set.Statement.{statement}
 use Rattle.sets_test.proofs.expected.same_set.Tie as tie
-use Rattle.sets_test.proofs.expected.same_set.Reads as reads
-use Rattle.sets_test.proofs.expected.same_set.Lts as lts
 
 abbrev Inv-loop : tie.InvT-loop
 Inv-loop a b i₀ i = Unit {0}

@@ -5,10 +5,6 @@ use mathlib.Core.Path.{_≡_}
 use borrow.Author.Needs.{needs}
 use Rattle.sets_test.proofs.frames.fill_counts.Statement.{statement}
 use Rattle.sets_test.proofs.frames.fill_counts.Tie as tie
-use Rattle.sets_test.proofs.frames.fill_counts.Reads as reads
-use Rattle.sets_test.proofs.frames.fill_counts.Lts as lts
-use Rattle.decode_smv.proofs.samples.signed.Reads as signed-reads
-use Rattle.sets_test.proofs.draw.draw.Reads as draw-reads
 
 abbrev Inv-loop : tie.InvT-loop
 Inv-loop stream counts₀ i₀ counts i = length counts ≡ length counts₀

@@ -5,9 +5,6 @@ use mathlib.Core.Path.{_≡_}
 use borrow.Author.Needs.{needs}
 use Rattle.sets_test.proofs.frames.fill_words.Statement.{statement}
 use Rattle.sets_test.proofs.frames.fill_words.Tie as tie
-use Rattle.sets_test.proofs.frames.fill_words.Reads as reads
-use Rattle.sets_test.proofs.frames.fill_words.Lts as lts
-use Rattle.sets_test.proofs.draw.draw.Reads as draw-reads
 
 abbrev Inv-loop : tie.InvT-loop
 Inv-loop stream words₀ i₀ words i = length words ≡ length words₀

@@ -3,9 +3,6 @@ use Prim.Native.Nat.{_-_}
 use borrow.Author.Needs.{needs}
 use Rattle.sets_test.proofs.history.fill.Statement.{statement}
 use Rattle.sets_test.proofs.history.fill.Tie as tie
-use Rattle.sets_test.proofs.history.fill.Reads as reads
-use Rattle.sets_test.proofs.history.fill.Lts as lts
-use Rattle.sets_test.proofs.history.factor.Reads as factor-reads
 
 abbrev Inv-loop : tie.InvT-loop
 Inv-loop stream factors₀ i₀ factors i = Unit {0}

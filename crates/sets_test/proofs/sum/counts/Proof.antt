@@ -4,10 +4,6 @@ use lib.ListN.{length}
 use borrow.Author.Needs.{needs}
 use Rattle.sets_test.proofs.sum.counts.Statement.{statement}
 use Rattle.sets_test.proofs.sum.counts.Tie as tie
-use Rattle.sets_test.proofs.sum.counts.Reads as reads
-use Rattle.sets_test.proofs.sum.counts.Lts as lts
-use Rattle.sets_test.proofs.sum.with.Reads as with-reads
-use Rattle.sets_test.proofs.sum.word_of.Reads as word-of-reads
 
 abbrev Inv-loop : tie.InvT-loop
 Inv-loop start s sum₀ i₀ sum i = Unit {0}

@@ -3,10 +3,6 @@ use Prim.Native.Nat.{_-_}
 use borrow.Author.Needs.{needs}
 use Rattle.sets_test.proofs.sum.factors.Statement.{statement}
 use Rattle.sets_test.proofs.sum.factors.Tie as tie
-use Rattle.sets_test.proofs.sum.factors.Reads as reads
-use Rattle.sets_test.proofs.sum.factors.Lts as lts
-use Rattle.sets_test.proofs.sum.bits_of.Reads as bits-of-reads
-use Rattle.sets_test.proofs.sum.with.Reads as with-reads
 
 abbrev Inv-loop : tie.InvT-loop
 Inv-loop start set sum₀ i₀ sum i = Unit {0}

@@ -4,10 +4,6 @@ use lib.ListN.{length}
 use borrow.Author.Needs.{needs}
 use Rattle.sets_test.proofs.sum.octets.Statement.{statement}
 use Rattle.sets_test.proofs.sum.octets.Tie as tie
-use Rattle.sets_test.proofs.sum.octets.Reads as reads
-use Rattle.sets_test.proofs.sum.octets.Lts as lts
-use Rattle.sets_test.proofs.sum.wide.Reads as wide-reads
-use Rattle.sets_test.proofs.sum.with.Reads as with-reads
 
 abbrev Inv-loop : tie.InvT-loop
 Inv-loop start s sum₀ i₀ sum i = Unit {0}

@@ -4,9 +4,6 @@ use lib.ListN.{length}
 use borrow.Author.Needs.{needs}
 use Rattle.sets_test.proofs.sum.words.Statement.{statement}
 use Rattle.sets_test.proofs.sum.words.Tie as tie
-use Rattle.sets_test.proofs.sum.words.Reads as reads
-use Rattle.sets_test.proofs.sum.words.Lts as lts
-use Rattle.sets_test.proofs.sum.with.Reads as with-reads
 
 abbrev Inv-loop : tie.InvT-loop
 Inv-loop start s sum₀ i₀ sum i = Unit {0}

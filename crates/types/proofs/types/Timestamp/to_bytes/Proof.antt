@@ -2,7 +2,7 @@
 -- Assumes nothing.
 use borrow.Author.Needs.{needs}
 use native.Mathlib.Nat.{div-div-eq-div-mul}
-use Rattle.types.specs.Time.{octetsOf}
+use Rattle.types.specs.Time.{timestampOctets}
 use Rattle.definition.specs.Octets.{octets}
 use Rattle.types.proofs.types.Timestamp.to_bytes.Statement.{statement}
 use Rattle.types.proofs.types.Timestamp.to_bytes.Tie as tie
@@ -32,7 +32,7 @@ cast-t24 : tie.Need-cast-t24
 cast-t24 c = search needs
 
 returns : tie.Need-returns
-unfolding octetsOf octets
+unfolding timestampOctets octets
 returns c = simp (div-div-eq-div-mul, c .to-byte .ensures)
 
 pub to-bytes-spec : {M : Type 1} → statement M

@@ -1,4 +1,4 @@
--- `compare::copy::copy_qualities` meets its contract. The invariant: the elements passed stand in the lent array.
+-- `compare::copy::copy_words` meets its contract. The invariant: the elements passed stand in the lent array.
 use Prim.Native.Nat.{_≤_, _-_}
 use mathlib.Core.Path.{_≡_, refl, _∙_}
 use native.Mathlib.Omega.{arith}
@@ -6,8 +6,8 @@ use borrow.Author.Needs.{needs}
 use lib.ListN.{length, take, length-set}
 use Rattle.definition.specs.Answers.{over}
 use Rattle.compare.specs.Copy.{copy-none, copy-more}
-use Rattle.compare.proofs.copy.copy_qualities.Statement.{statement}
-use Rattle.compare.proofs.copy.copy_qualities.Tie as tie
+use Rattle.compare.proofs.copy.copy_words.Statement.{statement}
+use Rattle.compare.proofs.copy.copy_words.Tie as tie
 
 abbrev Inv-loop : tie.InvT-loop
 Inv-loop from n to₀ i₀ to i = (i ≤ n) × (length to ≡ length to₀) × (to ≡ over to₀ 0 (take i from))
@@ -54,8 +54,8 @@ returns c =
     let e : l .i ≡ c .before .before .args .n = omega arith in
     rw e at (l .inv .2)
 
-pub copy-qualities-spec : {M : Type 1} → statement M
-copy-qualities-spec =
+pub copy-words-spec : {M : Type 1} → statement M
+copy-words-spec =
     tie.close
     (tie.spec
     Inv-loop
