@@ -1,121 +1,252 @@
-// Prints the conformance list: frames with their descriptions, descriptions that a writer refuses,
-// octets with what reading answers, and additions of data sets. The list's format stands in its own
-// first lines.
-mod block;
-mod calls;
-mod checks;
-mod describe;
-mod frames;
-mod grants;
+// Reads a conformance list from standard input, makes every call that it names, and prints how many
+// answers differ from what the list says. The list's format stands in its first lines.
+ghost use mathlib.Core.Path.{_≡_};
+ghost use lib.ListN.{length};
+
+mod answer;
+mod expected;
+mod floats;
+mod given;
+mod line;
+mod numbers;
 mod octets;
 mod print;
-mod reads;
-mod records;
-mod refusals;
-mod samples;
+mod reading;
 mod sets;
+mod table;
+mod words;
+mod writing;
 
+use crate::answer::Answer;
+use crate::answer::told;
+use crate::given::Arguments;
+use crate::line::WRONG;
+use crate::octets::Octets;
+use crate::octets::after;
+use crate::octets::first;
+use crate::octets::octet;
+use crate::octets::part;
+use crate::octets::plus;
+use crate::print::decimal;
 use crate::print::say;
+use crate::words::Words;
+use libc::STDIN_FILENO;
+
+// Octets of a list, one more than it can have.
+const INPUT: usize = 1048576;
+
+// Differences that are printed.
+const SHOWN: usize = 20;
+
+// What is counted, and the octet that the line starts with.
+struct Tally {
+    start: usize,
+    lines: usize,
+    cases: usize,
+    answers: usize,
+    differ: usize,
+}
+
+const NOTHING: Tally = Tally {
+    start: 0,
+    lines: 0,
+    cases: 0,
+    answers: 0,
+    differ: 0,
+};
+
+fn print_line(n: usize) {
+    say(b"line ");
+    decimal(n);
+    say(b": ");
+}
+
+// A line that isn't of the format.
+fn not_understood(mut tally: Tally) -> Tally {
+    if tally.differ < SHOWN {
+        print_line(tally.lines);
+        say(b"not understood\n");
+    }
+    tally.differ = plus(tally.differ, 1);
+    tally
+}
+
+// An answer that isn't a refusal.
+fn print_plain(letter: u8, n: usize) {
+    match letter {
+        b'y' => {
+            if n == 1 {
+                say(b"yes");
+            } else {
+                say(b"no");
+            }
+        }
+        b'x' => print::bits(n),
+        b'c' => print::count(n),
+        _ => decimal(n),
+    }
+}
+
+// An answer as a line says it, with the octets that a writer wrote.
+fn print_answer(letter: u8, answer: Answer, octets: &Octets) {
+    say(b"answered ");
+    if answer.number != 0 {
+        say(b"refused ");
+        decimal(answer.number);
+        say(b" ");
+        decimal(answer.beside);
+        say(b"\n");
+        return;
+    }
+    if !answer::is_plain(letter) {
+        say(b"accepted ");
+    }
+    print_plain(letter, answer.beside);
+    if letter == b'o' {
+        say(b" ");
+        print::hex(part(octets, given::WRITTEN, answer.beside));
+    }
+    say(b"\n");
+}
+
+// The calls without arrays for what they answer.
+fn call_plain(k: usize, a: usize, b: usize, words: &Words, octets: &Octets) -> Answer {
+    match k {
+        table::SIZE => writing::size(a, words, octets),
+        table::VALUES_OF => numbers::values_of(a, words),
+        table::IS_SMV => {
+            told(hopsickle::hopsickle_is_smv(reading::frame(words, octets)) as usize)
+        }
+        table::IS_GOOD => numbers::is_good(a),
+        table::VALUE_OF => numbers::value_of(a, b),
+        table::COUNT_OF => numbers::count_of(a, b),
+        _ => numbers::nanoseconds(a),
+    }
+}
+
+fn call(k: usize, a: usize, b: usize, words: &mut Words, octets: &mut Octets) -> Answer {
+    if k <= table::READ_BY_SETS {
+        return reading::read(k, a, words, octets);
+    }
+    if k == table::SETS_ADD {
+        return sets::add(a, words);
+    }
+    if table::WRITE <= k {
+        return writing::write(k, a, b, words, octets);
+    }
+    call_plain(k, a, b, words, octets)
+}
+
+// Makes the call of a line, and holds its answer against the one that the line says.
+fn take_call(
+    k: usize,
+    arguments: Arguments,
+    text: &[u8],
+    mut tally: Tally,
+    words: &mut Words,
+    octets: &mut Octets,
+) -> Tally {
+    tally.answers = plus(tally.answers, 1);
+    let answer = call(k, arguments.first, arguments.second, words, octets);
+    let letter = table::letter(k, 2);
+    if answer::is_said(answer, letter, text, words) {
+        return tally;
+    }
+    if tally.differ < SHOWN {
+        print_line(tally.lines);
+        print_answer(letter, answer, octets);
+    }
+    tally.differ = plus(tally.differ, 1);
+    tally
+}
+
+// Takes a line that gives something.
+fn take_given(
+    k: usize,
+    arguments: Arguments,
+    text: &[u8],
+    mut tally: Tally,
+    words: &mut Words,
+    octets: &mut Octets,
+) -> Tally {
+    if !given::take(k, arguments, text, words, octets) {
+        return not_understood(tally);
+    }
+    if k == table::CASE {
+        tally.cases = plus(tally.cases, 1);
+    }
+    tally
+}
+
+fn take_line(line: &[u8], tally: Tally, words: &mut Words, octets: &mut Octets) -> Tally {
+    let k = table::place_of(line::word(line));
+    let text = line::rest(line);
+    let arguments = given::take_arguments(k, text, words, octets);
+    let more = given::after_arguments(k, text);
+    if arguments.first == WRONG || arguments.second == WRONG || k == table::LINES {
+        return not_understood(tally);
+    }
+    if k <= table::OCTET_STRING {
+        return take_call(k, arguments, more, tally, words, octets);
+    }
+    take_given(k, arguments, more, tally, words, octets)
+}
+
+// Whether a line ends at place i: where a line feed is, and at the end.
+fn is_end(input: &[u8], i: usize) -> bool {
+    octet(input, i) == b'\n' || input.len() <= i
+}
+
+// Takes the line that ends at place i, where one does.
+fn take(input: &[u8], i: usize, mut tally: Tally, words: &mut Words, octets: &mut Octets) -> Tally {
+    if !is_end(input, i) {
+        return tally;
+    }
+    let line = after(first(input, i), tally.start);
+    tally.start = plus(i, 1);
+    tally.lines = plus(tally.lines, 1);
+    if line.len() == 0 || octet(line, 0) == b'#' {
+        return tally;
+    }
+    take_line(line, tally, words, octets)
+}
+
+fn take_all(input: &[u8]) -> Tally {
+    let mut words = [0; given::WORDS];
+    let mut octets = [0; given::SPACE];
+    let mut tally = NOTHING;
+    let mut i = 0;
+    while i <= input.len() {
+        tally = take(input, i, tally, &mut words, &mut octets);
+        i += 1;
+    }
+    tally
+}
+
+// A list that fills its space may have been cut.
+fn check(input: &[u8]) {
+    let mut tally = take_all(input);
+    if INPUT <= input.len() {
+        say(b"the list is too long\n");
+        tally.differ = plus(tally.differ, 1);
+    }
+    decimal(tally.cases);
+    say(b" cases\n");
+    decimal(tally.answers);
+    say(b" answers\n");
+    decimal(tally.differ);
+    say(b" differ\n");
+}
+
+// The octets of a list before they are read.
+fn space() -> [u8; INPUT]
+    ensures { λ r. ⌜ length r ≡ 1048576 ⌝ }
+{
+    [0; INPUT]
+}
 
 fn main() {
-    print_format();
-    print_fields();
-    frames::print();
-    frames::print_numbers();
-    frames::print_lengths();
-    frames::print_sizes();
-    refusals::print();
-    reads::print();
-    calls::print();
-    grants::print();
-    checks::print();
-    sets::print();
-}
-
-// The first lines: what blocks there are.
-fn print_format() {
-    say(
-        b"# Conformance list. Blocks, with an empty line before each; in a block a word and what it\n",
-    );
-    say(
-        b"# says on each line. Octets are in hexadecimal (- stands for none), all else is decimal.\n",
-    );
-    say(b"#\n");
-    say(
-        b"# frame NAME         what a writer does with a description; arrays and buffer are long enough\n",
-    );
-    say(b"#   channels N, the lines of the description, and\n");
-    say(b"#   octets HEX         the frame in the shortest form, from first octet to last, or\n");
-    say(b"#   refused N          the refusal's number, its place being 0\n");
-    say(b"#   fixed octets HEX, or fixed refused N, the same in the fixed form\n");
-    print_read();
-    print_granted();
-    print_checked();
-    print_added();
-    print_by_sets();
-    say(b"#\n");
-}
-
-// The first lines: the block of a reading.
-fn print_read() {
-    say(b"# read NAME          what reading octets answers; arrays are long enough\n");
-    say(b"#   channels N         the number of channels that is asked for\n");
-    say(b"#   octets HEX         the input\n");
-    say(b"#   ordinary accepted, or ordinary refused N P, the refusal's number and place\n");
-    say(b"#   strict accepted, or strict refused N P, in the shortest form\n");
-    say(
-        b"#   fixed strict accepted, or fixed strict refused N P, and where ordinary reading accepts\n",
-    );
-    say(b"#   length N           Length as it was read\n");
-    say(b"#   the lines of the description that was read\n");
-}
-
-// The first lines: the block of a granted reading.
-fn print_granted() {
-    say(b"# granted NAME       what granted reading answers\n");
-    say(
-        b"#   channels N, mask HEX, counts N, qualities N, the arrays' numbers of elements, octets HEX\n",
-    );
-    say(b"#   granted accepted, or granted refused N P, and where it accepts\n");
-    say(b"#   length N and the lines of the description, with a sample for each shown channel\n");
-}
-
-// The first lines: the block of a checked reading.
-fn print_checked() {
-    say(b"# checked NAME       what checked reading answers\n");
-    say(b"#   channels N, counts N, qualities N, octets HEX\n");
-    say(b"#   ordinary accepted, or ordinary refused N P\n");
-    say(b"#   checked accepted, or checked refused N P, and where it accepts\n");
-    say(b"#   length N and the lines of the description\n");
-}
-
-// The first lines: the block of an addition.
-fn print_added() {
-    say(b"# added NAME         what an addition to the data sets answers\n");
-    say(b"#   held CONFREV CHANNELS for each set that is held, from the first on\n");
-    say(b"#   confRev N, channels N, the set that is added\n");
-    say(b"#   added accepted N, how many sets are held then, or added refused N P\n");
-}
-
-// The first lines: the block of a reading by confRev.
-fn print_by_sets() {
-    say(
-        b"# by sets NAME       what reading with the data set of the first ASDU's confRev answers\n",
-    );
-    say(b"#   held CONFREV CHANNELS for each set, counts N, qualities N, octets HEX\n");
-    say(b"#   by sets accepted, or by sets refused N P, and where it accepts\n");
-    say(b"#   set CHANNELS       the set that is handed back\n");
-    say(b"#   length N and the lines of the description\n");
-}
-
-// The first lines: the words of a description.
-fn print_fields() {
-    say(b"# The lines of a description, each word on a line of its own:\n");
-    say(b"#   destination HEX, source HEX, vlan absent or TPID TCI, ethertype HEX, appid HEX,\n");
-    say(b"#   simulation on or off, security absent or HEX, noASDU N, and for each ASDU\n");
-    say(b"#   asdu K (from 0 on), svID HEX, datSet absent or HEX, smpCnt N, confRev N,\n");
-    say(b"#   refrTm absent or HEX, smpSynch N, smpRate absent or N,\n");
-    say(
-        b"#   sample COUNT QUALITY for each channel, smpMod absent or N, gmIdentity absent or HEX.\n",
-    );
+    let mut input = space();
+    let n = io::read_full(STDIN_FILENO, &mut input);
+    check(&input[..n]);
 }

@@ -1,4 +1,7 @@
-// Parts of a slice of octets, at any place.
+// Octets at any place of a slice, and of what is given.
+use crate::given::SPACE;
+
+pub type Octets = [u8; SPACE];
 
 // a + b, at most the largest number.
 pub fn plus(a: usize, b: usize) -> usize {
@@ -11,7 +14,7 @@ pub fn plus(a: usize, b: usize) -> usize {
 // The first n octets, or all where there are fewer.
 pub fn first(s: &[u8], n: usize) -> &[u8] {
     if n <= s.len() {
-        return &s[..n];
+        return &s[0..n];
     }
     s
 }
@@ -24,22 +27,31 @@ pub fn after(s: &[u8], n: usize) -> &[u8] {
     &s[..0]
 }
 
-// Puts an octet at a place, where there is one, and answers the place after it.
-pub fn put(out: &mut [u8], at: usize, octet: u8) -> usize {
-    if at < out.len() {
-        out[at] = octet;
-        return at + 1;
-    }
-    at
+// The n octets from a place, or as many as there are.
+pub fn part(s: &[u8], at: usize, n: usize) -> &[u8] {
+    first(after(s, at), n)
 }
 
-// Puts the octets of s from a place on, as far as there is room, and answers the place after them.
-pub fn put_all(out: &mut [u8], at: usize, s: &[u8]) -> usize {
-    let mut to = at;
+// The octet at a place, or 0 past the end.
+pub fn octet(s: &[u8], at: usize) -> u8 {
+    if at < s.len() {
+        return s[at];
+    }
+    0
+}
+
+// Puts an octet at a place, where there is one.
+pub fn put(octets: &mut Octets, at: usize, octet: u8) {
+    if at < SPACE {
+        octets[at] = octet;
+    }
+}
+
+// Puts the octets of s from a place on.
+pub fn put_all(octets: &mut Octets, at: usize, s: &[u8]) {
     let mut i = 0;
     while i < s.len() {
-        to = put(out, to, s[i]);
+        put(octets, plus(at, i), s[i]);
         i += 1;
     }
-    to
 }

@@ -9,33 +9,34 @@ pub fn decimal(n: usize) {
     io::print_decimal(STDOUT_FILENO, n as u64);
 }
 
-// The octet at a place; past the end the last one, and 0 where there is none.
-fn octet(s: &[u8], at: usize) -> u8 {
-    if at < s.len() {
-        return s[at];
-    }
-    if 0 < s.len() {
-        return s[s.len() - 1];
-    }
-    0
+// A number as eight hexadecimal digits.
+pub fn bits(n: usize) {
+    io::print_hex(STDOUT_FILENO, n as u64, 8);
 }
 
 fn wide(octet: u8) -> u64 {
     octet as u64
 }
 
-// n octets in hexadecimal: those of s, and where they are fewer the last one again.
-pub fn hex(s: &[u8], n: usize) {
+// n octets in hexadecimal.
+pub fn hex(s: &[u8]) {
     let mut i = 0;
-    while i < n {
-        io::print_hex(STDOUT_FILENO, wide(octet(s, i)), 2);
+    while i < s.len() {
+        io::print_hex(STDOUT_FILENO, wide(s[i]), 2);
         i += 1;
     }
 }
 
-// A number of 16 bits as four digits.
-pub fn hex16(n: u16) {
-    io::print_hex(STDOUT_FILENO, n as u64, 4);
+// The count of 32 bits in two's complement.
+pub fn count(n: usize) {
+    if n < 2147483648 {
+        decimal(n);
+        return;
+    }
+    say(b"-");
+    if n < 4294967296 {
+        decimal(4294967296 - n);
+    }
 }
 
 // The magnitude of a signed number.
@@ -44,12 +45,4 @@ pub fn magnitude(v: i32) -> u64 {
         return ((-1 - v) as u64) + 1;
     }
     v as u64
-}
-
-// A signed number in decimal.
-pub fn signed(v: i32) {
-    if v < 0 {
-        say(b"-");
-    }
-    io::print_decimal(STDOUT_FILENO, magnitude(v));
 }

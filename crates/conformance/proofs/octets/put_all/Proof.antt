@@ -1,5 +1,4 @@
--- Each turn writes one octet of s. The slice that is written keeps its length.
-use mathlib.Core.Path.{_≡_}
+-- Each turn puts one octet.
 use Prim.Native.Nat.{_-_}
 use borrow.Author.Needs.{needs}
 use lib.ListN.{length}
@@ -7,13 +6,16 @@ use Rattle.conformance.proofs.octets.put_all.Statement.{statement}
 use Rattle.conformance.proofs.octets.put_all.Tie as tie
 
 abbrev Inv-loop : tie.InvT-loop
-Inv-loop out₀ at s to₀ i₀ out to i = length out ≡ length out₀
+Inv-loop octets₀ at s i₀ octets i = Unit {0}
 
 abbrev μ-loop : tie.MeasureT-loop
-μ-loop out₀ at s to₀ i₀ out to i = length s - i
+μ-loop octets₀ at s i₀ octets i = length s - i
 
 loop-holds : tie.Need-loop-holds Inv-loop μ-loop
 loop-holds c = search needs
+
+plus-requires : tie.Need-plus-requires Inv-loop μ-loop
+plus-requires c κs = search needs
 
 shared-slice-read-put : tie.Need-shared-slice-read-put Inv-loop μ-loop
 shared-slice-read-put c = search needs
@@ -30,9 +32,6 @@ loop-less c = search needs
 loop-again : tie.Need-loop-again Inv-loop μ-loop
 loop-again c = search needs
 
-same-length : tie.Need-same-length Inv-loop μ-loop
-same-length c = search needs
-
 returns : tie.Need-returns Inv-loop μ-loop
 returns c = search needs
 
@@ -43,10 +42,10 @@ put-all-spec =
     Inv-loop
     μ-loop
     loop-holds
+    plus-requires
     shared-slice-read-put
     put-requires
     add-i
     loop-less
     loop-again
-    same-length
     returns)

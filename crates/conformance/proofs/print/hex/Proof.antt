@@ -1,20 +1,21 @@
 -- Each turn prints one octet.
+use Prim.Native.Nat.{_-_}
 use borrow.Author.Needs.{needs}
-use Prim.Native.Nat.{_-_, _≤_}
+use lib.ListN.{length}
 use Rattle.conformance.proofs.print.hex.Statement.{statement}
 use Rattle.conformance.proofs.print.hex.Tie as tie
 
 abbrev Inv-loop : tie.InvT-loop
-Inv-loop s n i₀ i = i ≤ n
+Inv-loop s i₀ i = Unit {0}
 
 abbrev μ-loop : tie.MeasureT-loop
-μ-loop s n i₀ i = n - i
+μ-loop s i₀ i = length s - i
 
 loop-holds : tie.Need-loop-holds Inv-loop μ-loop
 loop-holds c = search needs
 
-octet-requires : tie.Need-octet-requires Inv-loop μ-loop
-octet-requires c κs = search needs
+shared-slice-read-wide : tie.Need-shared-slice-read-wide Inv-loop μ-loop
+shared-slice-read-wide c = search needs
 
 wide-requires : tie.Need-wide-requires Inv-loop μ-loop
 wide-requires c κs = search needs
@@ -41,7 +42,7 @@ hex-spec =
     Inv-loop
     μ-loop
     loop-holds
-    octet-requires
+    shared-slice-read-wide
     wide-requires
     print-hex-requires
     add-i

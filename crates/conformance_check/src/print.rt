@@ -1,1 +1,0 @@
-../../conformance/src/print.rt
