@@ -17,75 +17,62 @@ pub struct Answer {
     pub right: bool,
 }
 
-// An answer that isn't a refusal: yes is 1 and no is 0.
-pub fn told(beside: usize) -> Answer {
+// An answer whose arrays are right, or are looked at elsewhere.
+pub fn answered(number: usize, beside: usize) -> Answer {
     Answer {
-        number: 0,
+        number,
         beside,
         right: true,
     }
 }
 
 // Whether the answer is a number alone, or yes or no, with this letter of the table of lines.
-pub fn is_plain(letter: u8) -> bool {
+fn is_plain(letter: u8) -> bool {
     letter == b'y' || letter == b'x' || letter == b'w'
 }
 
-// The number of a refusal, which isn't 0.
-fn refusal(n: usize) -> usize {
-    if n == 0 {
-        return WRONG;
-    }
-    n
-}
-
-// The number that a line says: 0 where it isn't refused.
-fn number_said(letter: u8, text: &[u8]) -> usize {
-    if is_plain(letter) {
-        return 0;
-    }
-    if same(word(text), b"accepted") {
-        return 0;
-    }
-    if same(word(text), b"refused") {
-        return refusal(decimal(word(rest(text))));
+// The number of the refusal that a line says, which isn't 0.
+fn refusal(text: &[u8]) -> usize {
+    let n = decimal(word(rest(text)));
+    if n != 0 && same(word(text), b"refused") {
+        return n;
     }
     WRONG
 }
 
-// The number beside accepted where the line doesn't say it.
-fn beside_given(letter: u8, words: &Words) -> usize {
+// The place of the number beside accepted that a line doesn't say; none where it is 0.
+fn place_of(letter: u8) -> usize {
     match letter {
-        b'o' => number(words, given::OCTETS),
-        b'v' => number(words, given::VALUES_LENGTH),
-        _ => 0,
+        b'o' => given::OCTETS,
+        b'v' => given::VALUES_LENGTH,
+        _ => given::NONE,
     }
 }
 
-// The number beside accepted.
-fn beside_accepted(letter: u8, text: &[u8], words: &Words) -> usize {
+// The number beside accepted, with what follows accepted.
+fn accepted(letter: u8, text: &[u8], words: &Words) -> usize {
     if letter == b'd' || letter == b'c' {
         return number_of(letter, text);
     }
     if 0 < text.len() {
         return WRONG;
     }
-    beside_given(letter, words)
+    number(words, place_of(letter))
 }
 
-fn beside_said(letter: u8, text: &[u8], words: &Words) -> usize {
+// What a line says.
+fn said(letter: u8, text: &[u8], words: &Words) -> Answer {
     if is_plain(letter) {
-        return number_of(letter, text);
+        return answered(0, number_of(letter, text));
     }
     if same(word(text), b"accepted") {
-        return beside_accepted(letter, rest(text), words);
+        return answered(0, accepted(letter, rest(text), words));
     }
-    decimal(rest(rest(text)))
+    answered(refusal(text), decimal(rest(rest(text))))
 }
 
 // Whether an answer is the one that a line says.
 pub fn is_said(answer: Answer, letter: u8, text: &[u8], words: &Words) -> bool {
-    answer.right
-        && answer.number == number_said(letter, text)
-        && answer.beside == beside_said(letter, text, words)
+    let said = said(letter, text, words);
+    answer.right && answer.number == said.number && answer.beside == said.beside
 }

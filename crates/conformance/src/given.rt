@@ -82,7 +82,7 @@ pub const LENT_NUMBERS: usize = layout::HEAD_NUMBERS + MOST * layout::ASDU_NUMBE
 pub const LENT_OCTETS: usize = layout::HEAD_OCTETS + MOST * layout::ASDU_OCTETS;
 
 // A place that isn't there.
-const NONE: usize = 1000000;
+pub const NONE: usize = 1000000;
 
 const ASDU_NUMBERS: usize = NUMBERS + layout::HEAD_NUMBERS;
 
@@ -285,15 +285,21 @@ fn fits(k: usize, a: usize, b: usize) -> bool {
     }
 }
 
-// The numbers of a line, the second where there is one.
+// The place of a line's second number, after the first, where it has one.
+fn second_place(k: usize, at: usize) -> usize {
+    if table::letter(k, 1) == b'-' {
+        return NONE;
+    }
+    plus(at, 1)
+}
+
+// The numbers of a line.
 fn put_numbers(k: usize, a: usize, b: usize, words: &mut Words) {
     let from = asdu(k, words) * layout::ASDU_NUMBERS;
     let at = plus(number_place(k), from);
     put(words, plus(mark_place(k), from), 1);
     put(words, at, a);
-    if table::letter(k, 1) != b'-' {
-        put(words, plus(at, 1), b);
-    }
+    put(words, second_place(k, at), b);
 }
 
 // A line of numbers or octets.
@@ -324,7 +330,7 @@ pub fn take(
         start_case(words, octets);
         return true;
     }
-    if table::COUNTS <= k && k <= table::SCALES {
+    if table::COUNTS <= k {
         return take_list(k, text, words);
     }
     if 0 < text.len() {

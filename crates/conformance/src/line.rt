@@ -32,6 +32,21 @@ pub fn rest(line: &[u8]) -> &[u8] {
     after(line, plus(space(line), 1))
 }
 
+// The row of a table of words that has the word, with so many octets in each row, or the number of
+// rows.
+pub fn find(table: &[u8], width: usize, rows: usize, w: &[u8]) -> usize {
+    let mut at = 0;
+    let mut k = 0;
+    while k < rows {
+        if same(word(after(table, at)), w) {
+            return k;
+        }
+        at = plus(at, width);
+        k += 1;
+    }
+    k
+}
+
 // The start of the word after the one that starts at a place.
 pub fn next(line: &[u8], at: usize) -> usize {
     plus(at, plus(space(after(line, at)), 1))
@@ -128,13 +143,17 @@ fn count(text: &[u8]) -> usize {
     below(decimal(text), 2147483648)
 }
 
-// 1 for the second of two words, 0 for the first.
-fn choice(text: &[u8], first: &[u8], second: &[u8]) -> usize {
-    if same(text, second) {
-        return 1;
-    }
-    if same(text, first) {
-        return 0;
+// The words of a choice, two by two.
+const CHOICES: [u8; 6 * CHOICE] = *b"shortest fixed    off      on       no       yes      ";
+
+const CHOICE: usize = 9;
+
+// 1 for the second word of a choice, 0 for the first.
+fn choice(k: usize, text: &[u8]) -> usize {
+    let choices = CHOICES;
+    let found = find(&choices, CHOICE, 6, text);
+    if found / 2 == k {
+        return found % 2;
     }
     WRONG
 }
@@ -149,9 +168,9 @@ pub fn number_of(letter: u8, text: &[u8]) -> usize {
         b'x' => below(number(text, 16), 4294967296),
         b't' => below(number(text, 16), 256),
         b'c' => count(text),
-        b'f' => choice(text, b"shortest", b"fixed"),
-        b's' => choice(text, b"off", b"on"),
-        b'y' => choice(text, b"no", b"yes"),
+        b'f' => choice(0, text),
+        b's' => choice(1, text),
+        b'y' => choice(2, text),
         _ => WRONG,
     }
 }

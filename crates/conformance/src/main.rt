@@ -18,7 +18,7 @@ mod words;
 mod writing;
 
 use crate::answer::Answer;
-use crate::answer::told;
+use crate::answer::answered;
 use crate::given::Arguments;
 use crate::line::WRONG;
 use crate::octets::Octets;
@@ -71,40 +71,34 @@ fn not_understood(mut tally: Tally) -> Tally {
     tally
 }
 
-// An answer that isn't a refusal.
-fn print_plain(letter: u8, n: usize) {
+// The number beside accepted, in the form in which lines have it; 1 is yes and 0 is no.
+fn print_beside(letter: u8, n: usize) {
     match letter {
-        b'y' => {
-            if n == 1 {
-                say(b"yes");
-            } else {
-                say(b"no");
-            }
-        }
         b'x' => print::bits(n),
         b'c' => print::count(n),
         _ => decimal(n),
     }
 }
 
-// An answer as a line says it, with the octets that a writer wrote.
+// The octets that a writer wrote.
+fn print_written(letter: u8, n: usize, octets: &Octets) {
+    if letter == b'o' {
+        say(b" ");
+        print::hex(part(octets, given::WRITTEN, n));
+    }
+}
+
+// An answer that a line doesn't say.
 fn print_answer(letter: u8, answer: Answer, octets: &Octets) {
-    say(b"answered ");
-    if answer.number != 0 {
-        say(b"refused ");
+    if answer.number == 0 {
+        say(b"answered accepted ");
+        print_beside(letter, answer.beside);
+        print_written(letter, answer.beside, octets);
+    } else {
+        say(b"answered refused ");
         decimal(answer.number);
         say(b" ");
         decimal(answer.beside);
-        say(b"\n");
-        return;
-    }
-    if !answer::is_plain(letter) {
-        say(b"accepted ");
-    }
-    print_plain(letter, answer.beside);
-    if letter == b'o' {
-        say(b" ");
-        print::hex(part(octets, given::WRITTEN, answer.beside));
     }
     say(b"\n");
 }
@@ -115,7 +109,10 @@ fn call_plain(k: usize, a: usize, b: usize, words: &Words, octets: &Octets) -> A
         table::SIZE => writing::size(a, words, octets),
         table::VALUES_OF => numbers::values_of(a, words),
         table::IS_SMV => {
-            told(hopsickle::hopsickle_is_smv(reading::frame(words, octets)) as usize)
+            answered(
+                0,
+                hopsickle::hopsickle_is_smv(reading::frame(words, octets)) as usize,
+            )
         }
         table::IS_GOOD => numbers::is_good(a),
         table::VALUE_OF => numbers::value_of(a, b),

@@ -1,6 +1,6 @@
 // The calls on numbers alone, and the values of counts.
 use crate::answer::Answer;
-use crate::answer::told;
+use crate::answer::answered;
 use crate::expected::LENT_FLOAT;
 use crate::expected::LENT_NUMBER;
 use crate::expected::amount;
@@ -28,15 +28,18 @@ fn wide(n: u32) -> usize {
 
 pub fn is_good(word: usize) -> Answer {
     let quality = Quality::from_sv(low(word));
-    told(quality.is_good() as usize)
+    answered(0, quality.is_good() as usize)
 }
 
 pub fn nanoseconds(fraction: usize) -> Answer {
-    told(wide(types::nanoseconds(low(fraction))))
+    answered(0, wide(types::nanoseconds(low(fraction))))
 }
 
 pub fn value_of(count: usize, scale: usize) -> Answer {
-    told(wide(bits_of(scaling::value_of(signed(low(count)), float_of(low(scale))))))
+    answered(
+        0,
+        wide(bits_of(scaling::value_of(signed(low(count)), float_of(low(scale))))),
+    )
 }
 
 // The 32 bits of a count in two's complement.
@@ -54,12 +57,8 @@ fn word_of(count: i32) -> usize {
 pub fn count_of(value: usize, scale: usize) -> Answer {
     let counted = scaling::count_of(float_of(low(value)), float_of(low(scale)));
     match counted {
-        Counted::Refused(r) => Answer {
-            number: r.number,
-            beside: r.place,
-            right: true,
-        },
-        Counted::Count(count) => told(word_of(count)),
+        Counted::Refused(r) => answered(r.number, r.place),
+        Counted::Count(count) => answered(0, word_of(count)),
     }
 }
 

@@ -22,17 +22,18 @@ pub fn frame<'a>(words: &Words, octets: &'a Octets) -> &'a [u8] {
     part(octets, given::FRAME, number(words, given::OCTETS))
 }
 
-// Every call but that by the store.
+// The call k, with argument a.
 fn call(
     k: usize,
     a: usize,
-    channels: usize,
+    words: &Words,
     frame: &[u8],
     numbers: &mut [u32],
     octets: &mut [u8],
     counts: &mut [i32],
     qualities: &mut [u32],
 ) -> Answer {
+    let channels = number(words, given::CHANNELS);
     let mut place = LENT_NUMBER;
     let number = match k {
         table::READ => hopsickle::hopsickle_read(
@@ -83,30 +84,14 @@ fn call(
             qualities,
             &mut place,
         ),
-        _ => hopsickle::hopsickle_header(frame, numbers, octets, &mut place),
+        table::HEADER => hopsickle::hopsickle_header(frame, numbers, octets, &mut place),
+        _ => sets::read(words, frame, numbers, octets, counts, qualities, &mut place),
     };
     Answer {
         number,
         beside: place,
         right: true,
     }
-}
-
-fn call_any(
-    k: usize,
-    a: usize,
-    words: &Words,
-    frame: &[u8],
-    numbers: &mut [u32],
-    octets: &mut [u8],
-    counts: &mut [i32],
-    qualities: &mut [u32],
-) -> Answer {
-    if k == table::READ_BY_SETS {
-        return sets::read(words, frame, numbers, octets, counts, qualities);
-    }
-    let channels = number(words, given::CHANNELS);
-    call(k, a, channels, frame, numbers, octets, counts, qualities)
 }
 
 // How many numbers, and octets, of the description a call hands back.
@@ -181,7 +166,7 @@ pub fn read(k: usize, a: usize, words: &Words, octets: &Octets) -> Answer {
     let mut counts = [LENT_COUNT; given::LIST];
     let q = at_most(words, given::ROOM + 1, given::LIST);
     let mut qualities = [LENT; given::LIST];
-    let answer = call_any(
+    let answer = call(
         k,
         a,
         words,
@@ -191,12 +176,11 @@ pub fn read(k: usize, a: usize, words: &Words, octets: &Octets) -> Answer {
         &mut counts[0..c],
         &mut qualities[0..q],
     );
-    let result = answer.number;
-    let right = answer.right
-        && is_description(k, result, words, octets, &numbers, &got)
-        && are_samples(k, result, words, &counts, &qualities);
+    let number = answer.number;
+    let right = is_description(k, number, words, octets, &numbers, &got)
+        && are_samples(k, number, words, &counts, &qualities);
     Answer {
-        number: result,
+        number,
         beside: answer.beside,
         right,
     }

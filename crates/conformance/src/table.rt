@@ -1,9 +1,7 @@
 // The first words of the lines, and the form of what follows each.
-use crate::line::word;
-use crate::octets::after;
+use crate::line::find;
 use crate::octets::octet;
 use crate::octets::plus;
-use check::same;
 
 // The places of the calls in the table.
 pub const READ: usize = 0;
@@ -95,14 +93,12 @@ pub const FLAT: usize = 41;
 
 pub const NUMBER: usize = 42;
 
-// The lists.
-pub const COUNTS: usize = 43;
+pub const ASDU: usize = 43;
 
-pub const SCALES: usize = 46;
+pub const CASE: usize = 44;
 
-pub const ASDU: usize = 47;
-
-pub const CASE: usize = 48;
+// The first of the four lists.
+pub const COUNTS: usize = 45;
 
 pub const LINES: usize = 49;
 
@@ -161,35 +157,17 @@ buffer           w--\
 room             ww-\
 flat             ww-\
 number           ww-\
+asdu             ---\
+case             ---\
 counts           --c\
 qualities        --w\
 values           --x\
-scales           --x\
-asdu             ---\
-case             ---";
-
-fn is_row(table: &[u8], k: usize, w: &[u8]) -> bool {
-    if k < LINES {
-        return same(word(after(table, k * ROW)), w);
-    }
-    false
-}
-
-fn find(table: &[u8], w: &[u8]) -> usize {
-    let mut k = 0;
-    while k < LINES {
-        if is_row(table, k, w) {
-            return k;
-        }
-        k += 1;
-    }
-    k
-}
+scales           --x";
 
 // The place of the line with this first word, or the number of lines.
 pub fn place_of(w: &[u8]) -> usize {
     let table = TABLE;
-    find(&table, w)
+    find(&table, ROW, LINES, w)
 }
 
 // A letter of a line.

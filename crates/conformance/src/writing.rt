@@ -1,5 +1,6 @@
 // The calls that write octets into a lent buffer, and the size of a frame.
 use crate::answer::Answer;
+use crate::answer::answered;
 use crate::expected::LENT_NUMBER;
 use crate::expected::LENT_OCTET;
 use crate::expected::amount;
@@ -33,15 +34,6 @@ fn qualities(words: &Words) -> &[u32] {
         given::QUALITIES,
         number(words, given::QUALITIES_LENGTH),
     )
-}
-
-// What a call that leaves nothing but its answer, or whose octets are looked at elsewhere, answers.
-fn answered(number: usize, beside: usize) -> Answer {
-    Answer {
-        number,
-        beside,
-        right: true,
-    }
 }
 
 // A frame with the counts.
@@ -93,16 +85,13 @@ fn written(w: Written) -> Answer {
 }
 
 // An element, with this tag, or a part of one.
-fn element(k: usize, tag: u8, n: usize, octets: &Octets, out: &mut [u8]) -> Answer {
+fn element(k: usize, tag: u8, n: usize, octets: &Octets, out: &mut [u8]) -> Written {
     match k {
-        table::TAG_LENGTH => written(ber_encode::encode_tag_length(tag, n, out, 0)),
+        table::TAG_LENGTH => ber_encode::encode_tag_length(tag, n, out, 0),
         table::UNSIGNED_INTEGER => {
-            written(ber_encode::encode_unsigned_integer(tag, (n % 4294967296) as u32, out, 0))
+            ber_encode::encode_unsigned_integer(tag, (n % 4294967296) as u32, out, 0)
         }
-        _ => {
-            let content = octets::part(octets, given::STRING, n);
-            written(ber_encode::encode_octet_string(tag, content, out, 0))
-        }
+        _ => ber_encode::encode_octet_string(tag, octets::part(octets, given::STRING, n), out, 0),
     }
 }
 
@@ -110,7 +99,7 @@ fn call(k: usize, a: usize, b: usize, words: &Words, octets: &Octets, out: &mut 
     match k {
         table::WRITE => frame(a == 1, words, octets, out),
         table::WRITE_VALUES => frame_of_values(a == 1, words, octets, out),
-        _ => element(k, (a % 256) as u8, b, octets, out),
+        _ => written(element(k, (a % 256) as u8, b, octets, out)),
     }
 }
 

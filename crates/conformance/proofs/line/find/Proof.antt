@@ -1,23 +1,32 @@
 -- Each turn compares one word.
 use Prim.Native.Nat.{_-_}
 use borrow.Author.Needs.{needs}
-use Rattle.conformance.proofs.table.find.Statement.{statement}
-use Rattle.conformance.proofs.table.find.Tie as tie
+use Rattle.conformance.proofs.line.find.Statement.{statement}
+use Rattle.conformance.proofs.line.find.Tie as tie
 
 abbrev Inv-loop : tie.InvT-loop
-Inv-loop table w k₀ k = Unit {0}
+Inv-loop table width rows w at₀ k₀ at k = Unit {0}
 
 abbrev μ-loop : tie.MeasureT-loop
-μ-loop table w k₀ k = 49 - k
+μ-loop table width rows w at₀ k₀ at k = rows - k
 
 loop-holds : tie.Need-loop-holds Inv-loop μ-loop
 loop-holds c = search needs
 
-is-row-requires : tie.Need-is-row-requires Inv-loop μ-loop
-is-row-requires c κs = search needs
+after-requires : tie.Need-after-requires Inv-loop μ-loop
+after-requires c κs = search needs
+
+word-requires : tie.Need-word-requires Inv-loop μ-loop
+word-requires c κs = search needs
+
+same-requires : tie.Need-same-requires Inv-loop μ-loop
+same-requires c κs = search needs
 
 returns : tie.Need-returns Inv-loop μ-loop
 returns c = search needs
+
+plus-requires : tie.Need-plus-requires Inv-loop μ-loop
+plus-requires c κs = search needs
 
 add-k : tie.Need-add-k Inv-loop μ-loop
 add-k c = search needs
@@ -38,8 +47,11 @@ find-spec =
     Inv-loop
     μ-loop
     loop-holds
-    is-row-requires
+    after-requires
+    word-requires
+    same-requires
     returns
+    plus-requires
     add-k
     loop-less
     loop-again
