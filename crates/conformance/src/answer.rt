@@ -60,7 +60,7 @@ fn accepted(letter: u8, text: &[u8], words: &Words) -> usize {
     number(words, place_of(letter))
 }
 
-// What a line says.
+// What a line says; WRONG where it isn't an answer.
 fn said(letter: u8, text: &[u8], words: &Words) -> Answer {
     if is_plain(letter) {
         return answered(0, number_of(letter, text));

@@ -21,7 +21,7 @@ use set_store::DataSets;
 // Elements that a list can have.
 pub const LIST: usize = 256;
 
-// Places among the words. ROOM and FLAT have two numbers each, and LENGTHS one for each list.
+// Places among the words. ROOM and FLAT have two numbers each.
 pub const CHANNELS: usize = 0;
 
 pub const BUFFER: usize = 1;
@@ -199,7 +199,7 @@ fn after_argument(k: usize, column: usize, text: &[u8]) -> &[u8] {
     rest(text)
 }
 
-// The arguments, where there are any.
+// The arguments, 0 where there are none; WRONG where the line isn't one of the table.
 pub fn take_arguments(k: usize, text: &[u8], words: &Words, octets: &mut Octets) -> Arguments {
     let first = argument(k, 0, text, words, octets);
     let second = argument(k, 1, after_argument(k, 0, text), words, octets);
@@ -305,8 +305,7 @@ fn put_numbers(k: usize, a: usize, b: usize, words: &mut Words) {
 // A line of numbers or octets.
 fn take_field(k: usize, a: usize, b: usize, words: &mut Words) -> bool {
     if k == table::NUMBER {
-        put(words, plus(NUMBERS, a), b);
-        return fits(k, a, b);
+        return fits(k, a, b) && put(words, plus(NUMBERS, a), b);
     }
     if is_of_asdu(k) {
         if number(words, ASDUS) == 0 {

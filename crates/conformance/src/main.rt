@@ -38,7 +38,7 @@ const INPUT: usize = 1048576;
 // Differences that are printed.
 const SHOWN: usize = 20;
 
-// What is counted, and the octet that the line starts with.
+// What is counted, and where the line starts.
 struct Tally {
     start: usize,
     lines: usize,
@@ -103,7 +103,7 @@ fn print_answer(letter: u8, answer: Answer, octets: &Octets) {
     say(b"\n");
 }
 
-// The calls without arrays for what they answer.
+// The calls that change nothing of what is given.
 fn call_plain(k: usize, a: usize, b: usize, words: &Words, octets: &Octets) -> Answer {
     match k {
         table::SIZE => writing::size(a, words, octets),
@@ -180,7 +180,7 @@ fn take_line(line: &[u8], tally: Tally, words: &mut Words, octets: &mut Octets) 
     let text = line::rest(line);
     let arguments = given::take_arguments(k, text, words, octets);
     let more = given::after_arguments(k, text);
-    if arguments.first == WRONG || arguments.second == WRONG || k == table::LINES {
+    if arguments.first == WRONG || arguments.second == WRONG {
         return not_understood(tally);
     }
     if k <= table::OCTET_STRING {

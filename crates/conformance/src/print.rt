@@ -18,7 +18,7 @@ fn wide(octet: u8) -> u64 {
     octet as u64
 }
 
-// n octets in hexadecimal.
+// Octets in hexadecimal.
 pub fn hex(s: &[u8]) {
     let mut i = 0;
     while i < s.len() {
@@ -27,7 +27,7 @@ pub fn hex(s: &[u8]) {
     }
 }
 
-// The count of 32 bits in two's complement.
+// The count with these 32 bits in two's complement.
 pub fn count(n: usize) {
     if n < 2147483648 {
         decimal(n);

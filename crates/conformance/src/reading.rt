@@ -33,6 +33,9 @@ fn call(
     counts: &mut [i32],
     qualities: &mut [u32],
 ) -> Answer {
+    if k == table::READ_BY_SETS {
+        return sets::read(words, frame, numbers, octets, counts, qualities);
+    }
     let channels = number(words, given::CHANNELS);
     let mut place = LENT_NUMBER;
     let number = match k {
@@ -84,8 +87,7 @@ fn call(
             qualities,
             &mut place,
         ),
-        table::HEADER => hopsickle::hopsickle_header(frame, numbers, octets, &mut place),
-        _ => sets::read(words, frame, numbers, octets, counts, qualities, &mut place),
+        _ => hopsickle::hopsickle_header(frame, numbers, octets, &mut place),
     };
     Answer {
         number,
@@ -177,7 +179,8 @@ pub fn read(k: usize, a: usize, words: &Words, octets: &Octets) -> Answer {
         &mut qualities[0..q],
     );
     let number = answer.number;
-    let right = is_description(k, number, words, octets, &numbers, &got)
+    let right = answer.right
+        && is_description(k, number, words, octets, &numbers, &got)
         && are_samples(k, number, words, &counts, &qualities);
     Answer {
         number,

@@ -6,7 +6,6 @@ use crate::expected::are_floats;
 use crate::expected::are_words;
 use crate::floats::fill_floats;
 use crate::given;
-use crate::line::WRONG;
 use crate::octets::plus;
 use crate::words;
 use crate::words::Words;
@@ -101,21 +100,7 @@ fn is_set(
     channels == LENT_NUMBER && are_floats(scales, words, given::SCALES, 0)
 }
 
-// The number of an answer, where the data set is right.
-fn with_set(
-    result: usize,
-    words: &Words,
-    channels: usize,
-    scales: &[f32; SavDataSetConfig::MAX_CHANNELS],
-) -> usize {
-    if is_set(result, words, channels, scales) {
-        return result;
-    }
-    WRONG
-}
-
-// A frame by the store of the case. Answers WRONG where the data set handed back isn't the one that it
-// has to be.
+// A frame by the store of the case; the answer is right where the data set handed back is.
 pub fn read(
     words: &Words,
     frame: &[u8],
@@ -123,14 +108,14 @@ pub fn read(
     octets: &mut [u8],
     counts: &mut [i32],
     qualities: &mut [u32],
-    place: &mut usize,
-) -> usize {
+) -> Answer {
     let mut sets = [0; DataSets::NUMBERS];
     fill_sets(words, &mut sets);
     let mut set_scales = [0.0; DataSets::SCALES];
     fill_floats(words, given::SET_SCALES, &mut set_scales);
     let mut channels = LENT_NUMBER;
     let mut scales = [LENT_FLOAT; SavDataSetConfig::MAX_CHANNELS];
+    let mut place = LENT_NUMBER;
     let number = hopsickle::hopsickle_read_by_sets(
         frame,
         &sets,
@@ -141,7 +126,11 @@ pub fn read(
         octets,
         counts,
         qualities,
-        place,
+        &mut place,
     );
-    with_set(number, words, channels, &scales)
+    Answer {
+        number,
+        beside: place,
+        right: is_set(number, words, channels, &scales),
+    }
 }
