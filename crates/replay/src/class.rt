@@ -1,7 +1,10 @@
 // How an answer of this project stands to the Rust's: alike, or different for a reason that docs/DIFFERENCES.md has.
+use crate::answer::Ours;
+use crate::answer::has;
+use crate::answer::has64;
+use crate::octets::first;
 use crate::octets::number16;
-use crate::octets::number64;
-use crate::octets::octet;
+use crate::octets::part;
 use libc::STDOUT_FILENO;
 
 // The classes are below this.
@@ -94,84 +97,61 @@ pub const BOTH_LOSSY: usize = 32;
 // The status of a panic.
 pub const PANICKED: u8 = 2;
 
-fn say(text: &[u8]) {
-    io::write_all(STDOUT_FILENO, text);
+// The octets of a name, with spaces after it.
+const NAME: usize = 87;
+
+const NAMES: [u8; CLASSES * NAME] = *b"\
+unexplained                                                                            \
+answered alike                                                                         \
+refused alike                                                                          \
+the Rust can't be asked                                                                \
+fraction of 2^24 or more: nanoseconds of its low 24 bits                               \
+the Rust panics: refused 1 at the buffer length                                        \
+the Rust panics: refused 7 at 0                                                        \
+refused alike, at 0                                                                    \
+refused alike, the buffer as lent                                                      \
+answered alike, text that isn't UTF-8                                                  \
+more than 24 channels: refused 8                                                       \
+above a limit: refused 4, the Rust answers                                             \
+above a limit: refused 4, the Rust refuses further on                                  \
+above a limit: refused 4, the Rust panics further on                                   \
+the Rust panics, header: refused 1 at the buffer length                                \
+the Rust panics, refrTm: refused 1 at its first content octet                          \
+the Rust panics, gmIdentity: refused 5                                                 \
+half a VLAN tag: can't be described                                                    \
+noASDU other than the number of ASDUs: can't be described                              \
+numbers of samples that differ: can't be described                                     \
+outside the limits: refused 9, the Rust answers                                        \
+outside the limits: refused 9, the Rust refuses                                        \
+outside the limits: refused 9, the Rust panics                                         \
+PDU above 1,492 octets: refused 10                                                     \
+answered alike, quality bits 13 to 31 cleared: refused 9 with them                     \
+answered alike, scale factors that differ: by the writer of counts                     \
+the Rust panics, index plus length of 2^64 or more: refused 1 at the buffer length     \
+answered alike, strict reading accepts it in the shortest form                         \
+answered alike, strict reading accepts it in the shortest form, text that isn't UTF-8  \
+answered alike, strict reading accepts it in the fixed form                            \
+answered alike, strict reading accepts it in the fixed form, text that isn't UTF-8     \
+answered alike, strict reading accepts it in both forms                                \
+answered alike, strict reading accepts it in both forms, text that isn't UTF-8         ";
+
+// The place of the first two spaces, or the length.
+fn end(s: &[u8]) -> usize {
+    let mut i = 0;
+    while i < s.len() {
+        if number16(s, i) == 0x2020 {
+            return i;
+        }
+        i += 1;
+    }
+    i
 }
 
 pub fn print_name(class: usize) {
-    if class < 9 {
-        print_first(class);
-    } else if class < 17 {
-        print_limit(class);
-    } else if class < 25 {
-        print_described(class);
-    } else {
-        print_form(class);
-    }
-}
-
-fn print_first(class: usize) {
-    match class {
-        0 => say(b"unexplained"),
-        1 => say(b"answered alike"),
-        2 => say(b"refused alike"),
-        3 => say(b"the Rust can't be asked"),
-        4 => say(b"fraction of 2^24 or more: nanoseconds of its low 24 bits"),
-        5 => say(b"the Rust panics: refused 1 at the buffer length"),
-        6 => say(b"the Rust panics: refused 7 at 0"),
-        7 => say(b"refused alike, at 0"),
-        8 => say(b"refused alike, the buffer as lent"),
-        _ => say(b"no class"),
-    }
-}
-
-fn print_limit(class: usize) {
-    match class {
-        9 => say(b"answered alike, text that isn't UTF-8"),
-        10 => say(b"more than 24 channels: refused 8"),
-        11 => say(b"above a limit: refused 4, the Rust answers"),
-        12 => say(b"above a limit: refused 4, the Rust refuses further on"),
-        13 => say(b"above a limit: refused 4, the Rust panics further on"),
-        14 => say(b"the Rust panics, header: refused 1 at the buffer length"),
-        15 => say(b"the Rust panics, refrTm: refused 1 at its first content octet"),
-        16 => say(b"the Rust panics, gmIdentity: refused 5"),
-        _ => say(b"no class"),
-    }
-}
-
-fn print_described(class: usize) {
-    match class {
-        17 => say(b"half a VLAN tag: can't be described"),
-        18 => say(b"noASDU other than the number of ASDUs: can't be described"),
-        19 => say(b"numbers of samples that differ: can't be described"),
-        20 => say(b"outside the limits: refused 9, the Rust answers"),
-        21 => say(b"outside the limits: refused 9, the Rust refuses"),
-        22 => say(b"outside the limits: refused 9, the Rust panics"),
-        23 => say(b"PDU above 1,492 octets: refused 10"),
-        24 => say(b"answered alike, quality bits 13 to 31 cleared: refused 9 with them"),
-        _ => say(b"no class"),
-    }
-}
-
-fn print_form(class: usize) {
-    match class {
-        25 => say(b"answered alike, scale factors that differ: by the writer of counts"),
-        26 => say(
-            b"the Rust panics, index plus length of 2^64 or more: refused 1 at the buffer length",
-        ),
-        27 => say(b"answered alike, strict reading accepts it in the shortest form"),
-        28 => say(
-            b"answered alike, strict reading accepts it in the shortest form, text that isn't UTF-8",
-        ),
-        29 => say(b"answered alike, strict reading accepts it in the fixed form"),
-        30 => say(
-            b"answered alike, strict reading accepts it in the fixed form, text that isn't UTF-8",
-        ),
-        31 => say(b"answered alike, strict reading accepts it in both forms"),
-        32 => say(
-            b"answered alike, strict reading accepts it in both forms, text that isn't UTF-8",
-        ),
-        _ => say(b"no class"),
+    if class < CLASSES {
+        let names = NAMES;
+        let name = part(&names, class * NAME, NAME);
+        io::write_all(STDOUT_FILENO, first(name, end(name)));
     }
 }
 
@@ -187,31 +167,23 @@ pub fn strictly(found: usize, utf8: usize, lossy: usize) -> usize {
 }
 
 // The class of two answers that have to be the same.
-pub fn alike(ours: &[u8], theirs: &[u8]) -> usize {
-    if !check::same(ours, theirs) {
-        return UNEXPLAINED;
+pub fn alike(ours: Ours, theirs: &[u8]) -> usize {
+    if ours.number == 0 {
+        return explained_if(ours.same, ANSWERED);
     }
-    if octet(ours, 0) == 1 {
-        return REFUSED;
-    }
-    ANSWERED
+    let at = has(theirs, has(theirs, 0, 1), (ours.number % 256) as u8);
+    explained_if(has64(theirs, at, ours.place) == theirs.len(), REFUSED)
 }
 
-// The class, where the octets are the same.
-pub fn same_or(ours: &[u8], theirs: &[u8], class: usize) -> usize {
-    if check::same(ours, theirs) {
+// The class, where something holds.
+pub fn explained_if(holds: bool, class: usize) -> usize {
+    if holds {
         return class;
     }
     UNEXPLAINED
 }
 
 // The class, where ours is refusal 1 at this place.
-pub fn at_end(ours: &[u8], place: usize, class: usize) -> usize {
-    if number16(ours, 0) != 257 {
-        return UNEXPLAINED;
-    }
-    if number64(ours, 2) != place {
-        return UNEXPLAINED;
-    }
-    class
+pub fn at_end(ours: Ours, place: usize, class: usize) -> usize {
+    explained_if(ours.number == 1 && ours.place == place, class)
 }

@@ -1,5 +1,7 @@
-// A description, from the layout of oracle/README.md: header, PDU and samples.
+// A description, from the layout of oracle/README.md: a header, then the PDU with its samples. `pdu` is the part after the
+// header.
 use crate::numbers::float_of;
+use crate::octets::after;
 use crate::octets::eight;
 use crate::octets::number16;
 use crate::octets::number32;
@@ -15,6 +17,9 @@ use rt_services::SavDataSetConfig;
 use rt_services::SavPdu;
 use rt_services::Vlan;
 use types::Quality;
+
+// The octets of a header.
+pub const PDU: usize = 23;
 
 // Elements of the arrays that are lent to the writer: above ten ASDUs of 24 channels.
 pub const SAMPLES: usize = 256;
@@ -64,48 +69,48 @@ pub fn header(request: &[u8]) -> EthernetHeader {
     }
 }
 
-pub fn security_length(request: &[u8]) -> usize {
-    number16(request, 27) as usize
+pub fn security_length(pdu: &[u8]) -> usize {
+    number16(pdu, 4) as usize
 }
 
-pub fn records(request: &[u8]) -> usize {
-    number16(request, plus(29, security_length(request))) as usize
+pub fn records(pdu: &[u8]) -> usize {
+    number16(pdu, plus(6, security_length(pdu))) as usize
 }
 
 // The place of the first ASDU record.
-pub fn first_record(request: &[u8]) -> usize {
-    plus(31, security_length(request))
+pub fn first_record(pdu: &[u8]) -> usize {
+    plus(8, security_length(pdu))
 }
 
 // The places in an ASDU record: the mark of datSet, smpCnt, and the number of samples.
-pub fn dat_set_at(request: &[u8], record: usize) -> usize {
-    plus(record, 2 + number16(request, record) as usize)
+pub fn dat_set_at(pdu: &[u8], record: usize) -> usize {
+    plus(record, 2 + number16(pdu, record) as usize)
 }
 
-fn smp_cnt_at(request: &[u8], record: usize) -> usize {
-    let at = dat_set_at(request, record);
-    plus(at, 3 + number16(request, plus(at, 1)) as usize)
+fn smp_cnt_at(pdu: &[u8], record: usize) -> usize {
+    let at = dat_set_at(pdu, record);
+    plus(at, 3 + number16(pdu, plus(at, 1)) as usize)
 }
 
-fn samples_at(request: &[u8], record: usize) -> usize {
-    plus(smp_cnt_at(request, record), 31)
+fn samples_at(pdu: &[u8], record: usize) -> usize {
+    plus(smp_cnt_at(pdu, record), 31)
 }
 
-pub fn samples(request: &[u8], record: usize) -> usize {
-    octet(request, samples_at(request, record)) as usize
+pub fn samples(pdu: &[u8], record: usize) -> usize {
+    octet(pdu, samples_at(pdu, record)) as usize
 }
 
-pub fn next_record(request: &[u8], record: usize) -> usize {
-    let at = samples_at(request, record);
-    plus(at, 1 + 12 * (octet(request, at) as usize))
+pub fn next_record(pdu: &[u8], record: usize) -> usize {
+    let at = samples_at(pdu, record);
+    plus(at, 1 + 12 * (octet(pdu, at) as usize))
 }
 
 // The number of channels: the samples of the first ASDU.
-pub fn channels(request: &[u8]) -> usize {
-    if records(request) == 0 {
+pub fn channels(pdu: &[u8]) -> usize {
+    if records(pdu) == 0 {
         return 0;
     }
-    samples(request, first_record(request))
+    samples(pdu, first_record(pdu))
 }
 
 // The octets of a text, and zeros after them.
@@ -130,200 +135,193 @@ fn held_security(s: &[u8]) -> [u8; SavPdu::MAX_SECURITY] {
     held
 }
 
-fn asdu(request: &[u8], record: usize) -> SavAsdu {
-    let set = dat_set_at(request, record);
-    let at = smp_cnt_at(request, record);
-    let sv_id_len = number16(request, record) as usize;
-    let dat_set_len = number16(request, plus(set, 1)) as usize;
+fn asdu(pdu: &[u8], record: usize) -> SavAsdu {
+    let set = dat_set_at(pdu, record);
+    let at = smp_cnt_at(pdu, record);
+    let sv_id_len = number16(pdu, record) as usize;
+    let dat_set_len = number16(pdu, plus(set, 1)) as usize;
     SavAsdu {
-        msv_id: held_text(part(request, plus(record, 2), sv_id_len)),
-        dat_set: presence(octet(request, set)),
-        dat_set_octets: held_text(part(request, plus(set, 3), dat_set_len)),
-        refr_tm: presence(octet(request, plus(at, 6))),
+        msv_id: held_text(part(pdu, plus(record, 2), sv_id_len)),
+        dat_set: presence(octet(pdu, set)),
+        dat_set_octets: held_text(part(pdu, plus(set, 3), dat_set_len)),
+        refr_tm: presence(octet(pdu, plus(at, 6))),
         msv_id_len: sv_id_len,
         dat_set_len,
-        refr_tm_octets: eight(request, plus(at, 7)),
-        gm_identity_octets: eight(request, plus(at, 23)),
-        smp_rate: optional16(request, plus(at, 16)),
-        smp_mod: optional16(request, plus(at, 19)),
-        conf_rev: number32(request, plus(at, 2)),
-        smp_cnt: number16(request, at),
-        smp_synch: octet(request, plus(at, 15)),
-        gm_identity: presence(octet(request, plus(at, 22))),
+        refr_tm_octets: eight(pdu, plus(at, 7)),
+        gm_identity_octets: eight(pdu, plus(at, 23)),
+        smp_rate: optional16(pdu, plus(at, 16)),
+        smp_mod: optional16(pdu, plus(at, 19)),
+        conf_rev: number32(pdu, plus(at, 2)),
+        smp_cnt: number16(pdu, at),
+        smp_synch: octet(pdu, plus(at, 15)),
+        gm_identity: presence(octet(pdu, plus(at, 22))),
     }
 }
 
-fn asdu_or_blank(request: &[u8], record: usize, there: bool) -> SavAsdu {
+fn asdu_or_blank(pdu: &[u8], record: usize, there: bool) -> SavAsdu {
     if there {
-        return asdu(request, record);
+        return asdu(pdu, record);
     }
     SavAsdu::BLANK
 }
 
 // The first eight ASDUs, and blank records after them.
-fn asdus(request: &[u8]) -> [SavAsdu; SavPdu::MAX_ASDUS] {
-    let n = records(request);
+fn asdus(pdu: &[u8]) -> [SavAsdu; SavPdu::MAX_ASDUS] {
+    let n = records(pdu);
     let mut held = BLANKS;
-    let mut at = first_record(request);
+    let mut at = first_record(pdu);
     let mut k = 0;
     while k < SavPdu::MAX_ASDUS {
-        held[k] = asdu_or_blank(request, at, k < n);
-        at = next_record(request, at);
+        held[k] = asdu_or_blank(pdu, at, k < n);
+        at = next_record(pdu, at);
         k += 1;
     }
     held
 }
 
-pub fn pdu(request: &[u8]) -> SavPdu {
-    let security_len = security_length(request);
+pub fn pdu_of(pdu: &[u8]) -> SavPdu {
+    let security_len = security_length(pdu);
     SavPdu {
-        sav_asdu: asdus(request),
-        security_octets: held_security(part(request, 29, security_len)),
+        sav_asdu: asdus(pdu),
+        security_octets: held_security(part(pdu, 6, security_len)),
         security_len,
-        no_asdu: number16(request, 24),
-        sim: octet(request, 23) == 1,
-        security: presence(octet(request, 26)),
+        no_asdu: number16(pdu, 1),
+        sim: octet(pdu, 0) == 1,
+        security: presence(octet(pdu, 3)),
     }
 }
 
-// The place of the first sample of an ASDU record; each has twelve octets.
-fn first_sample(request: &[u8], record: usize) -> usize {
-    plus(samples_at(request, record), 1)
+// The place of ASDU record k.
+fn record_at(pdu: &[u8], k: usize) -> usize {
+    let mut at = first_record(pdu);
+    let mut i = 0;
+    while i < k {
+        at = next_record(pdu, at);
+        i += 1;
+    }
+    at
+}
+
+// The fields of a sample.
+const VALUE: usize = 0;
+
+const SCALE: usize = 4;
+
+const QUALITY: usize = 8;
+
+// A field of sample e, ASDU by ASDU; 0 past the last sample.
+fn word(pdu: &[u8], e: usize, field: usize) -> u32 {
+    let n = channels(pdu);
+    if n == 0 || records(pdu) <= e / n {
+        return 0;
+    }
+    let samples = plus(samples_at(pdu, record_at(pdu, e / n)), 1);
+    number32(after(pdu, samples), plus(e % n % 256 * 12, field))
 }
 
 // The scale factor of channel i of the first ASDU.
-fn scale(request: &[u8], i: usize) -> f32 {
-    if channels(request) <= i {
+fn scale(pdu: &[u8], i: usize) -> f32 {
+    if channels(pdu) <= i {
         return 0.0;
     }
-    let places = part(request, first_sample(request, first_record(request)), 3060);
-    if 254 < i {
-        return 0.0;
-    }
-    float_of(number32(places, 12 * i + 4))
+    float_of(word(pdu, i, SCALE))
 }
 
 // The data set of the first ASDU.
-pub fn data_set(request: &[u8]) -> SavDataSetConfig {
+pub fn data_set(pdu: &[u8]) -> SavDataSetConfig {
     let mut scale_factor = [0.0; SavDataSetConfig::MAX_CHANNELS];
     let mut i = 0;
     while i < SavDataSetConfig::MAX_CHANNELS {
-        scale_factor[i] = scale(request, i);
+        scale_factor[i] = scale(pdu, i);
         i += 1;
     }
     SavDataSetConfig {
-        channels: channels(request),
+        channels: channels(pdu),
         scale_factor: scale_factor,
     }
 }
 
-fn set_value(values: &mut [f32], at: usize, value: f32) {
-    if at < values.len() {
-        values[at] = value;
-    }
+// The count of sample e, or its refusal.
+fn count_of(pdu: &[u8], e: usize) -> Counted {
+    scaling::count_of(float_of(word(pdu, e, VALUE)), float_of(word(pdu, e, SCALE)))
 }
 
-fn set_count(counts: &mut [i32], at: usize, count: i32) {
-    if at < counts.len() {
-        counts[at] = count;
-    }
-}
-
-fn set_word(words: &mut [u32], at: usize, word: u32) {
-    if at < words.len() {
-        words[at] = word;
-    }
-}
-
-// The count of a value; 1 where it can't be had, and the count stays 0.
-fn take_count(counts: &mut [i32], to: usize, counted: Counted) -> usize {
+fn is_refused(counted: Counted) -> bool {
     match counted {
-        Counted::Refused(_) => 1,
-        Counted::Count(c) => {
-            set_count(counts, to, c);
-            0
-        }
+        Counted::Refused(_) => true,
+        Counted::Count(_) => false,
     }
 }
 
-// A quality word as the Rust's Quality holds it, and as it stands; 2 where these differ.
-fn take_word(qualities: &mut [u32], words: &mut [u32], to: usize, word: u32) -> usize {
-    set_word(qualities, to, Quality::from_sv(word).to_sv());
-    set_word(words, to, word);
-    if word < SavAsdu::QUALITY_LIMIT {
+// A count, 0 where it can't be had.
+fn count_or_0(counted: Counted) -> i32 {
+    match counted {
+        Counted::Refused(_) => 0,
+        Counted::Count(c) => c,
+    }
+}
+
+// The elements of the four arrays, ASDU by ASDU, and zeros past the samples: values, counts, quality words as they stand,
+// and quality words as the Rust's Quality holds them.
+pub fn fill_values(pdu: &[u8], values: &mut [f32]) {
+    let mut e = 0;
+    while e < values.len() {
+        values[e] = float_of(word(pdu, e, VALUE));
+        e += 1;
+    }
+}
+
+pub fn fill_counts(pdu: &[u8], counts: &mut [i32]) {
+    let mut e = 0;
+    while e < counts.len() {
+        let count = count_or_0(count_of(pdu, e));
+        counts[e] = count;
+        e += 1;
+    }
+}
+
+pub fn fill_words(pdu: &[u8], words: &mut [u32]) {
+    let mut e = 0;
+    while e < words.len() {
+        words[e] = word(pdu, e, QUALITY);
+        e += 1;
+    }
+}
+
+pub fn fill_qualities(pdu: &[u8], qualities: &mut [u32]) {
+    let mut e = 0;
+    while e < qualities.len() {
+        qualities[e] = Quality::from_sv(word(pdu, e, QUALITY)).to_sv();
+        e += 1;
+    }
+}
+
+fn when(holds: bool, mark: usize) -> usize {
+    if holds {
+        return mark;
+    }
+    0
+}
+
+// 1 where the count of sample e can't be had, 2 where its quality word is of 2^13 or more, 4 where its scale factor isn't
+// that of the first ASDU; the sum where several hold, and 0 past the last sample.
+fn mark(pdu: &[u8], e: usize) -> usize {
+    let n = channels(pdu);
+    if n == 0 || records(pdu) <= e / n {
         return 0;
     }
-    2
+    let other = word(pdu, e, SCALE) != word(pdu, e % n, SCALE);
+    let wide = SavAsdu::QUALITY_LIMIT <= word(pdu, e, QUALITY);
+    when(is_refused(count_of(pdu, e)), 1) | when(wide, 2) | when(other, 4)
 }
 
-// The value at a place, and its count.
-fn take_value(
-    request: &[u8],
-    at: usize,
-    to: usize,
-    values: &mut [f32],
-    counts: &mut [i32],
-) -> usize {
-    let value = float_of(number32(request, at));
-    let scale = float_of(number32(request, plus(at, 4)));
-    set_value(values, to, value);
-    take_count(counts, to, scaling::count_of(value, scale))
-}
-
-// 4 where the samples at two places have different scale factors.
-fn other_scale(request: &[u8], at: usize, model: usize) -> usize {
-    if number32(request, plus(at, 4)) == number32(request, plus(model, 4)) {
-        return 0;
-    }
-    4
-}
-
-// The samples of the ASDU record at a place, to the elements from base on.
-fn take_record(
-    request: &[u8],
-    record: usize,
-    base: usize,
-    values: &mut [f32],
-    counts: &mut [i32],
-    qualities: &mut [u32],
-    words: &mut [u32],
-) -> usize {
-    let n = samples(request, record);
-    let mut model = first_sample(request, first_record(request));
-    let mut at = first_sample(request, record);
+// The marks of all samples together.
+pub fn marks(pdu: &[u8]) -> usize {
     let mut marks = 0;
-    let mut i = 0;
-    while i < n {
-        let to = plus(base, i);
-        marks = marks | other_scale(request, at, model);
-        marks = marks | take_value(request, at, to, values, counts);
-        marks = marks | take_word(qualities, words, to, number32(request, plus(at, 8)));
-        model = plus(model, 12);
-        at = plus(at, 12);
-        i += 1;
-    }
-    marks
-}
-
-// All values with their counts, and the quality words, ASDU by ASDU. The answer has 1 where a count can't be had, 2 where a
-// quality word is of 2^13 or more, and 4 where a scale factor isn't that of the first ASDU.
-pub fn take_samples(
-    request: &[u8],
-    values: &mut [f32],
-    counts: &mut [i32],
-    qualities: &mut [u32],
-    words: &mut [u32],
-) -> usize {
-    let n = records(request);
-    let mut at = first_record(request);
-    let mut base = 0;
-    let mut marks = 0;
-    let mut k = 0;
-    while k < n {
-        marks = marks | take_record(request, at, base, values, counts, qualities, words);
-        base = plus(base, samples(request, at));
-        at = next_record(request, at);
-        k += 1;
+    let mut e = 0;
+    while e < SAMPLES {
+        marks = marks | mark(pdu, e);
+        e += 1;
     }
     marks
 }

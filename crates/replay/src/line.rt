@@ -1,10 +1,10 @@
 // One line, `KIND REQUEST ANSWER`: its octets, and its class.
-use crate::answer::put;
 use crate::class;
 use crate::octets::after;
 use crate::octets::first;
 use crate::octets::octet;
 use crate::octets::plus;
+use crate::octets::put;
 
 // The octets that a word of a line stands for, or that it stands for none.
 pub enum Word {
@@ -100,47 +100,52 @@ fn not_asked(kind: u8) -> usize {
     }
 }
 
-fn judge(kind: u8, request: &[u8], theirs: &[u8], ours: &mut [u8]) -> usize {
+fn judge(kind: u8, request: &[u8], theirs: &[u8]) -> usize {
     if octet(theirs, 0) == 3 {
         return not_asked(kind);
     }
     match kind {
-        b'q' => crate::of_types::quality(request, theirs, ours),
-        b'b' => crate::of_types::time_quality(request, theirs, ours),
-        b'd' => crate::of_types::timestamp(request, theirs, ours),
-        b'n' => crate::of_types::nanoseconds(request, theirs, ours),
-        b'w' => crate::of_types::timestamp_octets(request, theirs, ours),
-        b'c' => crate::of_scaling::count(request, theirs, ours),
-        b'v' => crate::of_scaling::value(request, theirs, ours),
-        b'k' => crate::of_scaling::le_92(theirs, ours),
-        b't' => crate::of_ber::head(request, theirs, ours),
-        b'r' => crate::of_ber::integer(request, theirs, ours),
-        b'l' => crate::of_ber::tag_length(request, theirs, ours),
-        b'u' => crate::of_ber::integer_octets(request, theirs, ours),
-        b'f' => crate::of_reading::frame(request, theirs, ours),
-        b'p' => crate::of_reading::pdu(request, theirs, ours),
-        b'h' => crate::of_reading::header(request, theirs, ours),
-        b'i' => crate::of_reading::frame_test(request, theirs, ours),
-        b'e' => crate::of_writing::encode(request, theirs, ours),
-        b's' => crate::of_writing::size(request, theirs, ours),
+        b'q' => crate::of_types::quality(request, theirs),
+        b'b' => crate::of_types::time_quality(request, theirs),
+        b'd' => crate::of_types::timestamp(request, theirs),
+        b'n' => crate::of_types::nanoseconds(request, theirs),
+        b'w' => crate::of_types::timestamp_octets(request, theirs),
+        b'c' => crate::of_scaling::count(request, theirs),
+        b'v' => crate::of_scaling::value(request, theirs),
+        b'k' => crate::of_scaling::le_92(theirs),
+        b't' => crate::of_ber::head(request, theirs),
+        b'r' => crate::of_ber::integer(request, theirs),
+        b'l' => crate::of_ber::tag_length(request, theirs),
+        b'u' => crate::of_ber::integer_octets(request, theirs),
+        b'f' => crate::of_reading::frame(request, theirs),
+        b'p' => crate::of_reading::pdu(request, theirs),
+        b'h' => crate::of_reading::header(request, theirs),
+        b'i' => crate::of_reading::frame_test(request, theirs),
+        b'e' => crate::of_writing::encode(request, theirs),
+        b's' => crate::of_writing::size(request, theirs),
         _ => class::UNEXPLAINED,
     }
 }
 
+// The octets of a request, and of an answer, are at most so many.
+const LONGEST: usize = 16384;
+
 // The class of a line.
-pub fn class_of(line: &[u8], request: &mut [u8], theirs: &mut [u8], ours: &mut [u8]) -> usize {
+pub fn class_of(line: &[u8]) -> usize {
     if octet(line, 1) != b' ' {
         return class::UNEXPLAINED;
     }
     let words = after(line, 2);
     let end = space(words);
-    let asked = read_word(first(words, end), request);
+    let mut request = [0u8; LONGEST];
+    let asked = read_word(first(words, end), &mut request);
     let Word::Octets(n) = asked else {
         return class::UNEXPLAINED;
     };
-    let answered = read_word(after(words, plus(end, 1)), theirs);
+    let mut theirs = [0u8; LONGEST];
+    let answered = read_word(after(words, plus(end, 1)), &mut theirs);
     let Word::Octets(m) = answered else {
         return class::UNEXPLAINED;
     };
-    judge(octet(line, 0), first(request, n), first(theirs, m), ours)
+    judge(octet(line, 0), first(&request, n), first(&theirs, m))
 }

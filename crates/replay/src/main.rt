@@ -18,15 +18,19 @@ mod writing_class;
 use crate::octets::first;
 use crate::octets::octet;
 use crate::octets::plus;
+use crate::octets::put;
 use libc::STDIN_FILENO;
 use libc::STDOUT_FILENO;
 
-// Places in the state: octets of the line so far, lines so far, unexplained differences so far.
-const FILL: usize = 0;
+// Places among the numbers: how many lines there are of each kind and class, how many lines in all, how many unexplained
+// differences, and how many octets the line has so far.
+const LINES: usize = 256 * class::CLASSES;
 
-const LINES: usize = 1;
+const UNEXPLAINED: usize = LINES + 1;
 
-const UNEXPLAINED: usize = 2;
+const FILL: usize = LINES + 2;
+
+const NUMBERS: usize = LINES + 3;
 
 // How many unexplained differences are shown.
 const SHOWN: usize = 5;
@@ -53,7 +57,7 @@ fn count(numbers: &mut [usize], at: usize) {
     set(numbers, at, plus(v, 1));
 }
 
-// The place of a kind and a class among the counts.
+// The place of a kind and a class.
 fn slot(kind: u8, class: usize) -> usize {
     if class < class::CLASSES {
         return kind as usize * class::CLASSES + class;
@@ -61,121 +65,83 @@ fn slot(kind: u8, class: usize) -> usize {
     0
 }
 
-// Counts a line, and shows an unexplained difference.
-fn note(kind: u8, class: usize, state: &mut [usize], counts: &mut [usize]) {
-    count(state, LINES);
-    count(counts, slot(kind, class));
-    if class != class::UNEXPLAINED {
-        return;
-    }
-    count(state, UNEXPLAINED);
-    if SHOWN < get(state, UNEXPLAINED) {
-        return;
-    }
+// Shows an unexplained difference.
+fn show(kind: u8, line: usize) {
     say(b"unexplained difference: ");
-    io::write_all(STDOUT_FILENO, &[kind]);
+    say(&[kind]);
     say(b", line ");
-    io::print_decimal(STDOUT_FILENO, get(state, LINES) as u64);
+    io::print_decimal(STDOUT_FILENO, line as u64);
     say(b"\n");
 }
 
-// Takes one octet of the input: adds it to the line, or ends the line.
-fn take(
-    c: u8,
-    line: &mut [u8],
-    request: &mut [u8],
-    theirs: &mut [u8],
-    ours: &mut [u8],
-    state: &mut [usize],
-    counts: &mut [usize],
-) {
-    let fill = get(state, FILL);
-    if c != b'\n' {
-        answer::put(line, fill, c);
-        set(state, FILL, plus(fill, 1));
-        return;
+// Counts a line, and shows the first unexplained differences.
+fn note(kind: u8, class: usize, numbers: &mut [usize]) {
+    count(numbers, LINES);
+    count(numbers, slot(kind, class));
+    if class == class::UNEXPLAINED {
+        count(numbers, UNEXPLAINED);
+        if get(numbers, UNEXPLAINED) <= SHOWN {
+            show(kind, get(numbers, LINES));
+        }
     }
-    set(state, FILL, 0);
-    let kind = octet(line, 0);
-    if line.len() < fill {
-        note(kind, class::UNEXPLAINED, state, counts);
-        return;
-    }
-    let class = line::class_of(first(line, fill), request, theirs, ours);
-    note(kind, class, state, counts);
 }
 
-fn take_all(
-    chunk: &[u8],
-    line: &mut [u8],
-    request: &mut [u8],
-    theirs: &mut [u8],
-    ours: &mut [u8],
-    state: &mut [usize],
-    counts: &mut [usize],
-) {
+// The class of a line of so many octets, of which there is room for some.
+fn class_of(line: &[u8], fill: usize) -> usize {
+    if line.len() < fill {
+        return class::UNEXPLAINED;
+    }
+    line::class_of(first(line, fill))
+}
+
+// Takes one octet of the input: adds it to the line, or ends the line.
+fn take(c: u8, line: &mut [u8], numbers: &mut [usize]) {
+    let fill = get(numbers, FILL);
+    if c != b'\n' {
+        put(line, fill, c);
+        set(numbers, FILL, plus(fill, 1));
+        return;
+    }
+    note(octet(line, 0), class_of(line, fill), numbers);
+    set(numbers, FILL, 0);
+}
+
+fn take_all(chunk: &[u8], line: &mut [u8], numbers: &mut [usize]) {
     let mut i = 0;
     while i < chunk.len() {
-        take(chunk[i], line, request, theirs, ours, state, counts);
+        take(chunk[i], line, numbers);
         i += 1;
     }
 }
 
 // Reads once, and answers whether anything came.
-fn read_some(
-    line: &mut [u8],
-    request: &mut [u8],
-    theirs: &mut [u8],
-    ours: &mut [u8],
-    state: &mut [usize],
-    counts: &mut [usize],
-) -> bool {
+fn read_some(line: &mut [u8], numbers: &mut [usize]) -> bool {
     let mut chunk = io::large_buffer();
     let got = libc::read(STDIN_FILENO, &mut chunk);
     if got <= 0 {
         return false;
     }
     let n = io::count(got, &chunk);
-    take_all(&chunk[..n], line, request, theirs, ours, state, counts);
+    take_all(&chunk[..n], line, numbers);
     true
 }
 
-// The loop counts its turns down from a number that no run uses up, since nothing says that the input ends.
-fn read_lines(
-    line: &mut [u8],
-    request: &mut [u8],
-    theirs: &mut [u8],
-    ours: &mut [u8],
-    state: &mut [usize],
-    counts: &mut [usize],
-) {
+// Reads the whole input. A line of more than 65,536 octets is an unexplained difference. The loop counts its turns down from
+// a number that no run uses up, since nothing says that the input ends.
+fn read_all(numbers: &mut [usize]) {
+    let mut space = io::large_buffer();
+    let line: &mut [u8] = &mut space;
     let mut turns = u64::MAX;
-    while turns > 0 && read_some(line, request, theirs, ours, state, counts) {
+    while turns > 0 && read_some(line, numbers) {
         turns -= 1;
     }
-}
-
-// Reads the whole input. A line of more than 65,536 octets is an unexplained difference.
-fn read_all(state: &mut [usize], counts: &mut [usize]) {
-    let mut line = io::large_buffer();
-    let mut request = io::large_buffer();
-    let mut theirs = io::large_buffer();
-    let mut ours = io::large_buffer();
-    read_lines(
-        &mut line,
-        &mut request,
-        &mut theirs,
-        &mut ours,
-        state,
-        counts,
-    );
 }
 
 fn print_count(kind: u8, class: usize, n: usize) {
     if n == 0 {
         return;
     }
-    io::write_all(STDOUT_FILENO, &[kind]);
+    say(&[kind]);
     say(b" ");
     class::print_name(class);
     say(b": ");
@@ -183,36 +149,21 @@ fn print_count(kind: u8, class: usize, n: usize) {
     say(b"\n");
 }
 
-fn print_kind(kind: u8, counts: &[usize]) {
-    let mut class = 0;
-    while class < class::CLASSES {
-        print_count(kind, class, get(counts, slot(kind, class)));
-        class += 1;
+// How many lines there are of each kind and class.
+fn print_counts(numbers: &[usize]) {
+    let mut i: usize = 0;
+    while i < LINES {
+        print_count((i / class::CLASSES % 256) as u8, i % class::CLASSES, get(numbers, i));
+        i += 1;
     }
-}
-
-fn print_all(counts: &[usize]) {
-    let mut kind: u8 = 0;
-    while kind < 255 {
-        print_kind(kind, counts);
-        kind += 1;
-    }
-}
-
-// How many lines there are of each kind and class, then how many lines and unexplained differences.
-fn print_end(state: &[usize], counts: &[usize]) {
-    print_all(counts);
-    io::print_decimal(STDOUT_FILENO, get(state, LINES) as u64);
-    say(b" inputs, ");
-    io::print_decimal(STDOUT_FILENO, get(state, UNEXPLAINED) as u64);
-    say(b" unexplained differences\n");
 }
 
 fn main() {
-    let mut state_numbers = [0usize; 3];
-    let mut class_numbers = [0usize; 256 * class::CLASSES];
-    let state: &mut [usize] = &mut state_numbers;
-    let counts: &mut [usize] = &mut class_numbers;
-    read_all(state, counts);
-    print_end(state, counts);
+    let mut numbers = [0usize; NUMBERS];
+    read_all(&mut numbers);
+    print_counts(&numbers);
+    io::print_decimal(STDOUT_FILENO, get(&numbers, LINES) as u64);
+    say(b" inputs, ");
+    io::print_decimal(STDOUT_FILENO, get(&numbers, UNEXPLAINED) as u64);
+    say(b" unexplained differences\n");
 }

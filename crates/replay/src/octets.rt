@@ -47,6 +47,13 @@ fn pair64(high: u32, low: u32) -> usize {
     high as usize * 4294967296 + low as usize
 }
 
+// Puts an octet at a place, where there is one.
+pub fn put(out: &mut [u8], at: usize, octet: u8) {
+    if at < out.len() {
+        out[at] = octet;
+    }
+}
+
 // The first n octets, or all where there are fewer.
 pub fn first(s: &[u8], n: usize) -> &[u8] {
     if n <= s.len() {

@@ -1,15 +1,17 @@
 // The kinds f, p, h and i: the frame reader, decode_smv, the header, and the frame test.
-use crate::answer::put;
-use crate::answer::put_mark;
-use crate::answer::put_octets;
-use crate::answer::put_refusal;
-use crate::answer::put16;
-use crate::answer::put32;
-use crate::answer::put64;
+use crate::answer::Ours;
+use crate::answer::WRONG;
+use crate::answer::accepted;
+use crate::answer::has;
+use crate::answer::has_mark;
+use crate::answer::has_octets;
+use crate::answer::has16;
+use crate::answer::has32;
+use crate::answer::has64;
+use crate::answer::refused;
 use crate::class;
 use crate::numbers::bits_of;
 use crate::numbers::float_of;
-use crate::numbers::word_of;
 use crate::octets::after;
 use crate::octets::first;
 use crate::octets::less;
@@ -24,134 +26,111 @@ use ber_decode::Outcome;
 use rt_services::EthernetHeader;
 use rt_services::OptionalU16;
 use rt_services::Presence;
+use rt_services::Refusal;
 use rt_services::SavAsdu;
+use rt_services::SavDataSetConfig;
 use rt_services::SavPdu;
 use rt_services::SavRead;
 use rt_services::Vlan;
 use rt_services::Written;
 
-fn put_vlan(out: &mut [u8], at: usize, vlan: Vlan) -> usize {
+fn has_vlan(theirs: &[u8], at: usize, vlan: Vlan) -> usize {
     match vlan {
-        Vlan::Untagged => {
-            let at = put(out, at, 0);
-            put32(out, at, 0)
-        }
-        Vlan::Tagged(tpid, tci) => {
-            let at = put(out, at, 1);
-            let at = put16(out, at, tpid);
-            put16(out, at, tci)
-        }
+        Vlan::Untagged => has32(theirs, has(theirs, at, 0), 0),
+        Vlan::Tagged(tpid, tci) => has16(theirs, has16(theirs, has(theirs, at, 1), tpid), tci),
     }
 }
 
-fn put_header(out: &mut [u8], at: usize, h: EthernetHeader) -> usize {
+fn has_header(theirs: &[u8], at: usize, h: EthernetHeader) -> usize {
     let destination = h.dst_addr;
     let source = h.src_addr;
     let vlan = h.vlan;
-    let at = put_octets(out, at, &destination);
-    let at = put_octets(out, at, &source);
-    let at = put_vlan(out, at, vlan);
-    let at = put16(out, at, h.ether_type);
-    let at = put16(out, at, h.appid);
-    put16(out, at, h.length)
+    let at = has_octets(theirs, at, &destination);
+    let at = has_octets(theirs, at, &source);
+    let at = has_vlan(theirs, at, vlan);
+    let at = has16(theirs, at, h.ether_type);
+    let at = has16(theirs, at, h.appid);
+    has16(theirs, at, h.length)
 }
 
-fn put_length(out: &mut [u8], at: usize, n: usize) -> usize {
-    put16(out, at, (n % 65536) as u16)
+fn has_length(theirs: &[u8], at: usize, n: usize) -> usize {
+    has16(theirs, at, (n % 65536) as u16)
 }
 
 // A text: its length, and its lossy UTF-8 reading.
-fn put_text(out: &mut [u8], at: usize, s: &[u8]) -> usize {
+fn has_text(theirs: &[u8], at: usize, s: &[u8]) -> usize {
     let start = plus(at, 2);
-    let end = text::put_lossy(out, start, s);
-    put_length(out, at, less(end, start));
-    end
+    let end = text::has_lossy(theirs, start, s);
+    if has_length(theirs, at, less(end, start)) == start {
+        return end;
+    }
+    WRONG
 }
 
-fn put_presence(out: &mut [u8], at: usize, presence: Presence) -> usize {
+fn mark_of(presence: Presence) -> u8 {
     match presence {
-        Presence::Absent => put(out, at, 0),
-        Presence::Present => put(out, at, 1),
+        Presence::Absent => 0,
+        Presence::Present => 1,
     }
 }
 
-fn put_security(out: &mut [u8], at: usize, presence: Presence, s: &[u8]) -> usize {
-    let at = put_presence(out, at, presence);
-    let at = put_length(out, at, s.len());
-    put_octets(out, at, s)
-}
-
-fn put_optional_text(out: &mut [u8], at: usize, presence: Presence, s: &[u8]) -> usize {
-    let at = put_presence(out, at, presence);
-    put_text(out, at, s)
-}
-
-fn put_optional_eight(out: &mut [u8], at: usize, presence: Presence, s: [u8; 8]) -> usize {
-    let at = put_presence(out, at, presence);
-    put_octets(out, at, &s)
-}
-
-fn put_optional16(out: &mut [u8], at: usize, number: OptionalU16) -> usize {
+fn has_optional16(theirs: &[u8], at: usize, number: OptionalU16) -> usize {
     match number {
-        OptionalU16::Absent => {
-            let at = put(out, at, 0);
-            put16(out, at, 0)
-        }
-        OptionalU16::Present(v) => {
-            let at = put(out, at, 1);
-            put16(out, at, v)
-        }
+        OptionalU16::Absent => has16(theirs, has(theirs, at, 0), 0),
+        OptionalU16::Present(v) => has16(theirs, has(theirs, at, 1), v),
     }
 }
 
-fn put_texts(out: &mut [u8], at: usize, a: SavAsdu) -> usize {
+fn has_texts(theirs: &[u8], at: usize, a: SavAsdu) -> usize {
     let sv_id = a.msv_id;
     let dat_set = a.dat_set_octets;
     let presence = a.dat_set;
-    let at = put_text(out, at, first(&sv_id, a.msv_id_len));
-    put_optional_text(out, at, presence, first(&dat_set, a.dat_set_len))
+    let at = has_text(theirs, at, first(&sv_id, a.msv_id_len));
+    let at = has(theirs, at, mark_of(presence));
+    has_text(theirs, at, first(&dat_set, a.dat_set_len))
 }
 
-fn put_fields(out: &mut [u8], at: usize, a: SavAsdu) -> usize {
+fn has_counters(theirs: &[u8], at: usize, a: SavAsdu) -> usize {
     let refr_tm = a.refr_tm;
     let refr_tm_octets = a.refr_tm_octets;
+    let at = has16(theirs, at, a.smp_cnt);
+    let at = has32(theirs, at, a.conf_rev);
+    let at = has(theirs, at, mark_of(refr_tm));
+    let at = has_octets(theirs, at, &refr_tm_octets);
+    has(theirs, at, a.smp_synch)
+}
+
+fn has_optional(theirs: &[u8], at: usize, a: SavAsdu) -> usize {
     let smp_rate = a.smp_rate;
     let smp_mod = a.smp_mod;
     let gm_identity = a.gm_identity;
     let gm_identity_octets = a.gm_identity_octets;
-    let at = put16(out, at, a.smp_cnt);
-    let at = put32(out, at, a.conf_rev);
-    let at = put_optional_eight(out, at, refr_tm, refr_tm_octets);
-    let at = put(out, at, a.smp_synch);
-    let at = put_optional16(out, at, smp_rate);
-    let at = put_optional16(out, at, smp_mod);
-    put_optional_eight(out, at, gm_identity, gm_identity_octets)
-}
-
-fn count_at(counts: &[i32], at: usize) -> i32 {
-    if at < counts.len() {
-        return counts[at];
-    }
-    0
-}
-
-fn word_at(words: &[u32], at: usize) -> u32 {
-    if at < words.len() {
-        return words[at];
-    }
-    0
+    let at = has_optional16(theirs, at, smp_rate);
+    let at = has_optional16(theirs, at, smp_mod);
+    let at = has(theirs, at, mark_of(gm_identity));
+    has_octets(theirs, at, &gm_identity_octets)
 }
 
 // A sample: the value of its count, its scale factor as the request has it, and its quality word.
-fn put_sample(out: &mut [u8], at: usize, scale: u32, count: i32, quality: u32) -> usize {
-    let at = put32(out, at, bits_of(scaling::value_of(count, float_of(scale))));
-    let at = put32(out, at, scale);
-    put32(out, at, quality)
+fn has_sample(
+    theirs: &[u8],
+    at: usize,
+    scale: u32,
+    counts: &[i32],
+    qualities: &[u32],
+    i: usize,
+) -> usize {
+    if counts.len() <= i || qualities.len() <= i {
+        return WRONG;
+    }
+    let value = scaling::value_of(counts[i], float_of(scale));
+    let at = has32(theirs, at, bits_of(value));
+    has32(theirs, has32(theirs, at, scale), qualities[i])
 }
 
 // The samples of one ASDU, whose first stands at base in the arrays. The scale factors have four octets each.
-fn put_samples(
-    out: &mut [u8],
+fn has_samples(
+    theirs: &[u8],
     at: usize,
     scales: &[u8],
     counts: &[i32],
@@ -159,38 +138,18 @@ fn put_samples(
     base: usize,
 ) -> usize {
     let channels = scales.len() / 4;
-    let mut to = put(out, at, (channels % 256) as u8);
+    let mut to = has(theirs, at, (channels % 256) as u8);
     let mut i = 0;
     while i < channels {
-        let sample = plus(base, i);
-        to = put_sample(
-            out,
-            to,
-            number32(scales, 4 * i),
-            count_at(counts, sample),
-            word_at(qualities, sample),
-        );
+        let scale = number32(scales, 4 * i);
+        to = has_sample(theirs, to, scale, counts, qualities, plus(base, i));
         i += 1;
     }
     to
 }
 
-fn put_asdu(
-    out: &mut [u8],
-    at: usize,
-    a: SavAsdu,
-    scales: &[u8],
-    counts: &[i32],
-    qualities: &[u32],
-    base: usize,
-) -> usize {
-    let at = put_texts(out, at, a);
-    let at = put_fields(out, at, a);
-    put_samples(out, at, scales, counts, qualities, base)
-}
-
-fn put_asdus(
-    out: &mut [u8],
+fn has_asdus(
+    theirs: &[u8],
     at: usize,
     r: SavRead,
     scales: &[u8],
@@ -206,28 +165,41 @@ fn put_asdus(
     let mut k = 0;
     while k < n {
         let a = r.sav_asdu[k];
-        to = put_asdu(out, to, a, scales, counts, qualities, base);
+        to = has_counters(theirs, has_texts(theirs, to, a), a);
+        to = has_optional(theirs, to, a);
+        to = has_samples(theirs, to, scales, counts, qualities, base);
         base = plus(base, scales.len() / 4);
         k += 1;
     }
     to
 }
 
-fn put_pdu(
-    out: &mut [u8],
+// The PDU's fields before its ASDUs.
+fn has_start(theirs: &[u8], at: usize, r: SavRead) -> usize {
+    let security = r.security;
+    let octets = r.security_octets;
+    let at = has_mark(theirs, at, r.sim);
+    let at = has16(theirs, at, r.no_asdu);
+    let at = has(theirs, at, mark_of(security));
+    let at = has_length(theirs, at, r.security_len);
+    let at = has_octets(theirs, at, first(&octets, r.security_len));
+    has16(theirs, at, r.no_asdu)
+}
+
+// What was read, held against the Rust's answer, in which the PDU starts at a place.
+fn ours_of(
+    theirs: &[u8],
     at: usize,
     r: SavRead,
     scales: &[u8],
     counts: &[i32],
     qualities: &[u32],
-) -> usize {
-    let security = r.security;
-    let octets = r.security_octets;
-    let at = put_mark(out, at, r.sim);
-    let at = put16(out, at, r.no_asdu);
-    let at = put_security(out, at, security, first(&octets, r.security_len));
-    let at = put16(out, at, r.no_asdu);
-    put_asdus(out, at, r, scales, counts, qualities)
+) -> Ours {
+    if r.number != 0 {
+        return refused(r.number, r.place);
+    }
+    let at = has_start(theirs, at, r);
+    accepted(theirs, has_asdus(theirs, at, r, scales, counts, qualities))
 }
 
 // Whether the texts of an ASDU are UTF-8.
@@ -275,20 +247,9 @@ fn written_again(
 ) -> bool {
     let mut buffer = [0u8; SavPdu::MAX_FRAME];
     let header = r.header;
-    let sav_asdu = r.sav_asdu;
-    let security_octets = r.security_octets;
-    let security = r.security;
-    let pdu = SavPdu {
-        sav_asdu,
-        security_octets,
-        security_len: r.security_len,
-        no_asdu: r.no_asdu,
-        sim: r.sim,
-        security,
-    };
     let answer = encode_smv::encode_smv(
         header,
-        pdu,
+        strict_smv::pdu_of(r),
         channels,
         fixed,
         counts,
@@ -301,26 +262,23 @@ fn written_again(
     check::same(s, first(&buffer, size))
 }
 
+// What strict reading refuses; number 0 where it accepts.
+fn strict(s: &[u8], channels: usize, fixed: bool) -> Refusal {
+    let mut counts = [0i32; SavDataSetConfig::MAX_SAMPLES];
+    let mut qualities = [0u32; SavDataSetConfig::MAX_SAMPLES];
+    let r = strict_smv::read_strict(s, channels, fixed, &mut counts, &mut qualities);
+    Refusal {
+        number: r.number,
+        place: r.place,
+    }
+}
+
 // What strict reading makes of octets, held to ordinary reading and to the writer.
-enum Strict {
-    Unexplained,
-    Refused,
-    Accepted,
-}
+const REFUSED: usize = 0;
 
-fn refused_if(holds: bool) -> Strict {
-    if holds {
-        return Strict::Refused;
-    }
-    Strict::Unexplained
-}
+const ACCEPTED: usize = 1;
 
-fn accepted_if(holds: bool) -> Strict {
-    if holds {
-        return Strict::Accepted;
-    }
-    Strict::Unexplained
-}
+const WRONGLY: usize = 4;
 
 // Strict reading in a form: it refuses what ordinary reading refuses, and accepts exactly what the
 // writer writes again of what was read.
@@ -331,18 +289,22 @@ fn strict_in(
     r: SavRead,
     counts: &[i32],
     qualities: &[u32],
-) -> Strict {
-    let mut own_counts = [0i32; 192];
-    let mut own_qualities = [0u32; 192];
-    let strict = strict_smv::read_strict(s, channels, fixed, &mut own_counts, &mut own_qualities);
+) -> usize {
+    let strict = strict(s, channels, fixed);
     if r.number != 0 {
-        return refused_if(strict.number == r.number && strict.place == r.place);
+        if strict.number == r.number && strict.place == r.place {
+            return REFUSED;
+        }
+        return WRONGLY;
     }
     let again = written_again(s, channels, fixed, r, counts, qualities);
-    if strict.number == 6 {
-        return refused_if(!again);
+    if strict.number == 6 && !again {
+        return REFUSED;
     }
-    accepted_if(strict.number == 0 && again)
+    if strict.number == 0 && again {
+        return ACCEPTED;
+    }
+    WRONGLY
 }
 
 // The class, with strict reading in both forms.
@@ -356,92 +318,60 @@ fn by_strict(
 ) -> usize {
     let shortest = strict_in(s, channels, false, r, counts, qualities);
     let fixed = strict_in(s, channels, true, r, counts, qualities);
-    match shortest {
-        Strict::Unexplained => class::UNEXPLAINED,
-        Strict::Refused => match fixed {
-            Strict::Unexplained => class::UNEXPLAINED,
-            Strict::Refused => found,
-            Strict::Accepted => class::strictly(found, class::FIXED, class::FIXED_LOSSY),
-        },
-        Strict::Accepted => match fixed {
-            Strict::Unexplained => class::UNEXPLAINED,
-            Strict::Refused => class::strictly(found, class::SHORTEST, class::SHORTEST_LOSSY),
-            Strict::Accepted => class::strictly(found, class::BOTH, class::BOTH_LOSSY),
-        },
+    match shortest % 5 + 2 * (fixed % 5) {
+        0 => found,
+        1 => class::strictly(found, class::SHORTEST, class::SHORTEST_LOSSY),
+        2 => class::strictly(found, class::FIXED, class::FIXED_LOSSY),
+        3 => class::strictly(found, class::BOTH, class::BOTH_LOSSY),
+        _ => class::UNEXPLAINED,
     }
 }
 
-pub fn frame(request: &[u8], theirs: &[u8], out: &mut [u8]) -> usize {
-    let mut counts = [0i32; 192];
-    let mut qualities = [0u32; 192];
+pub fn frame(request: &[u8], theirs: &[u8]) -> usize {
+    let mut counts = [0i32; SavDataSetConfig::MAX_SAMPLES];
+    let mut qualities = [0u32; SavDataSetConfig::MAX_SAMPLES];
     let channels = octet(request, 0) as usize;
     let scales = part(request, 1, 4 * channels);
     let s = after(request, 1 + 4 * channels);
     let r = decode_smv::read_frame(s, channels, &mut counts, &mut qualities);
-    if r.number != 0 {
-        let at = put_refusal(out, r.number, r.place);
-        let found = reading_class::class_of_frame(s, channels, theirs, first(out, at));
-        return by_strict(found, s, channels, r, &counts, &qualities);
-    }
     let header = r.header;
-    let at = put(out, 0, 0);
-    let at = put_header(out, at, header);
-    let at = put_pdu(out, at, r, scales, &counts, &qualities);
+    let at = has_header(theirs, has(theirs, 0, 0), header);
+    let ours = ours_of(theirs, at, r, scales, &counts, &qualities);
     let found = by_text(
-        reading_class::class_of_frame(s, channels, theirs, first(out, at)),
+        reading_class::class_of_frame(s, channels, theirs, ours),
         r,
     );
     by_strict(found, s, channels, r, &counts, &qualities)
 }
 
-// The class, where the Rust answered, with a blank header before its PDU.
-fn with_answer(found: usize, theirs: &[u8]) -> usize {
-    let mut answer = [0u8; 4096];
-    if found != class::LIMIT_ANSWERED {
-        return found;
-    }
-    let at = put_octets(&mut answer, 23, after(theirs, 1));
-    reading_class::with_answer(found, first(&answer, at))
-}
-
-pub fn pdu(request: &[u8], theirs: &[u8], out: &mut [u8]) -> usize {
-    let mut counts = [0i32; 192];
-    let mut qualities = [0u32; 192];
+pub fn pdu(request: &[u8], theirs: &[u8]) -> usize {
+    let mut counts = [0i32; SavDataSetConfig::MAX_SAMPLES];
+    let mut qualities = [0u32; SavDataSetConfig::MAX_SAMPLES];
     let start = number64(request, 0);
     let channels = octet(request, 8) as usize;
     let scales = part(request, 9, 4 * channels);
     let s = after(request, 9 + 4 * channels);
     let r = decode_smv::decode_smv(s, start, channels, &mut counts, &mut qualities);
-    if r.number != 0 {
-        let at = put_refusal(out, r.number, r.place);
-        let found = reading_class::class_of(s, start, channels, theirs, first(out, at));
-        return with_answer(found, theirs);
-    }
-    let at = put(out, 0, 0);
-    let at = put_pdu(out, at, r, scales, &counts, &qualities);
-    by_text(
-        reading_class::class_of(s, start, channels, theirs, first(out, at)),
-        r,
-    )
+    let ours = ours_of(theirs, has(theirs, 0, 0), r, scales, &counts, &qualities);
+    let found = reading_class::class_of(s, start, channels, theirs, ours);
+    by_text(reading_class::with_answer(found, after(theirs, 1)), r)
 }
 
-pub fn header(request: &[u8], theirs: &[u8], out: &mut [u8]) -> usize {
+pub fn header(request: &[u8], theirs: &[u8]) -> usize {
     let found = ethernet_header::decode_ethernet_header(request);
     let step = found.outcome;
     let Outcome::Next(next) = step else {
         let refusal = step.refusal();
-        let at = put_refusal(out, refusal.number, refusal.place);
-        return reading_class::of_header(request, theirs, first(out, at));
+        let ours = refused(refusal.number, refusal.place);
+        return reading_class::of_header(request, theirs, ours);
     };
     let header = found.header;
-    let at = put(out, 0, 0);
-    let at = put_header(out, at, header);
-    let at = put64(out, at, next.at);
-    class::alike(first(out, at), theirs)
+    let at = has_header(theirs, has(theirs, 0, 0), header);
+    class::alike(accepted(theirs, has64(theirs, at, next.at)), theirs)
 }
 
-pub fn frame_test(request: &[u8], theirs: &[u8], out: &mut [u8]) -> usize {
-    let at = put(out, 0, 0);
-    let at = put_mark(out, at, ethernet_header::is_smv_frame(request));
-    class::alike(first(out, at), theirs)
+pub fn frame_test(request: &[u8], theirs: &[u8]) -> usize {
+    let is = ethernet_header::is_smv_frame(request);
+    let at = has_mark(theirs, has(theirs, 0, 0), is);
+    class::alike(accepted(theirs, at), theirs)
 }

@@ -1,12 +1,12 @@
 // The kinds q, b, d, n and w: quality, time quality and timestamp.
-use crate::answer::put;
-use crate::answer::put_mark;
-use crate::answer::put_octets;
-use crate::answer::put16;
-use crate::answer::put32;
+use crate::answer::accepted;
+use crate::answer::has;
+use crate::answer::has_mark;
+use crate::answer::has_octets;
+use crate::answer::has16;
+use crate::answer::has32;
 use crate::class;
 use crate::octets::eight;
-use crate::octets::first;
 use crate::octets::number32;
 use crate::octets::octet;
 use types::AccuracyBits;
@@ -15,89 +15,79 @@ use types::TimeQuality;
 use types::Timestamp;
 use types::Validity;
 
-fn put_validity(out: &mut [u8], at: usize, v: Validity) -> usize {
+fn number_of(v: Validity) -> u8 {
     match v {
-        Validity::Good => put(out, at, 0),
-        Validity::Invalid => put(out, at, 1),
-        Validity::Reserved => put(out, at, 2),
-        Validity::Questionable => put(out, at, 3),
+        Validity::Good => 0,
+        Validity::Invalid => 1,
+        Validity::Reserved => 2,
+        Validity::Questionable => 3,
     }
 }
 
-fn put_flags(out: &mut [u8], at: usize, q: Quality) -> usize {
-    let at = put_mark(out, at, q.overflow);
-    let at = put_mark(out, at, q.out_of_range);
-    let at = put_mark(out, at, q.bad_reference);
-    let at = put_mark(out, at, q.oscillatory);
-    put_mark(out, at, q.failure)
+fn has_flags(theirs: &[u8], at: usize, q: Quality) -> usize {
+    let at = has_mark(theirs, at, q.overflow);
+    let at = has_mark(theirs, at, q.out_of_range);
+    let at = has_mark(theirs, at, q.bad_reference);
+    let at = has_mark(theirs, at, q.oscillatory);
+    let at = has_mark(theirs, at, q.failure);
+    let at = has_mark(theirs, at, q.old_data);
+    let at = has_mark(theirs, at, q.inconsistent);
+    let at = has_mark(theirs, at, q.inaccurate);
+    let at = has_mark(theirs, at, q.source_substituted);
+    let at = has_mark(theirs, at, q.test);
+    has_mark(theirs, at, q.operator_blocked)
 }
 
-fn put_more_flags(out: &mut [u8], at: usize, q: Quality) -> usize {
-    let at = put_mark(out, at, q.old_data);
-    let at = put_mark(out, at, q.inconsistent);
-    let at = put_mark(out, at, q.inaccurate);
-    let at = put_mark(out, at, q.source_substituted);
-    let at = put_mark(out, at, q.test);
-    put_mark(out, at, q.operator_blocked)
-}
-
-pub fn quality(request: &[u8], theirs: &[u8], out: &mut [u8]) -> usize {
+pub fn quality(request: &[u8], theirs: &[u8]) -> usize {
     let q = Quality::from_sv(number32(request, 0));
-    let at = put(out, 0, 0);
     let validity = q.validity;
-    let at = put_validity(out, at, validity);
-    let at = put_flags(out, at, q);
-    let at = put_more_flags(out, at, q);
-    let at = put32(out, at, q.to_sv());
-    let at = put_mark(out, at, q.is_good());
-    class::alike(first(out, at), theirs)
+    let at = has(theirs, has(theirs, 0, 0), number_of(validity));
+    let at = has_flags(theirs, at, q);
+    let at = has32(theirs, at, q.to_sv());
+    let at = has_mark(theirs, at, q.is_good());
+    class::alike(accepted(theirs, at), theirs)
 }
 
-fn put_time_quality(out: &mut [u8], at: usize, q: TimeQuality) -> usize {
-    let at = put_mark(out, at, q.leap_second_known);
-    let at = put_mark(out, at, q.clock_failure);
-    let at = put_mark(out, at, q.clock_not_synchronized);
-    put(out, at, q.time_accuracy)
+fn has_time_quality(theirs: &[u8], at: usize, q: TimeQuality) -> usize {
+    let at = has_mark(theirs, at, q.leap_second_known);
+    let at = has_mark(theirs, at, q.clock_failure);
+    let at = has_mark(theirs, at, q.clock_not_synchronized);
+    has(theirs, at, q.time_accuracy)
 }
 
-fn put_accuracy(out: &mut [u8], at: usize, q: TimeQuality) -> usize {
+// The accuracy with its mark, as one number.
+fn accuracy(q: TimeQuality) -> u16 {
     let accuracy = q.accuracy_bits();
     match accuracy {
-        AccuracyBits::Bits(n) => {
-            let at = put(out, at, 1);
-            put(out, at, n)
-        }
-        AccuracyBits::Absent => put16(out, at, 0),
+        AccuracyBits::Bits(n) => 256 + n as u16,
+        AccuracyBits::Absent => 0,
     }
 }
 
-pub fn time_quality(request: &[u8], theirs: &[u8], out: &mut [u8]) -> usize {
+pub fn time_quality(request: &[u8], theirs: &[u8]) -> usize {
     let q = TimeQuality::from_byte(octet(request, 0));
-    let at = put(out, 0, 0);
-    let at = put_time_quality(out, at, q);
-    let at = put(out, at, q.to_byte());
-    let at = put_accuracy(out, at, q);
-    class::alike(first(out, at), theirs)
+    let at = has_time_quality(theirs, has(theirs, 0, 0), q);
+    let at = has(theirs, at, q.to_byte());
+    let at = has16(theirs, at, accuracy(q));
+    class::alike(accepted(theirs, at), theirs)
 }
 
-pub fn timestamp(request: &[u8], theirs: &[u8], out: &mut [u8]) -> usize {
+pub fn timestamp(request: &[u8], theirs: &[u8]) -> usize {
     let t = Timestamp::from_bytes(eight(request, 0));
-    let at = put(out, 0, 0);
-    let at = put32(out, at, t.seconds);
-    let at = put32(out, at, t.fraction);
+    let at = has32(theirs, has(theirs, 0, 0), t.seconds);
+    let at = has32(theirs, at, t.fraction);
     let q = t.quality;
-    let at = put_time_quality(out, at, q);
+    let at = has_time_quality(theirs, at, q);
     let again = t.to_bytes();
-    let at = put_octets(out, at, &again);
-    let at = put32(out, at, t.fraction_as_nanos());
-    class::alike(first(out, at), theirs)
+    let at = has_octets(theirs, at, &again);
+    let at = has32(theirs, at, t.fraction_as_nanos());
+    class::alike(accepted(theirs, at), theirs)
 }
 
-pub fn nanoseconds(request: &[u8], theirs: &[u8], out: &mut [u8]) -> usize {
+pub fn nanoseconds(request: &[u8], theirs: &[u8]) -> usize {
     let fraction = number32(request, 0);
-    let at = put(out, 0, 0);
-    let at = put32(out, at, types::nanoseconds(fraction));
-    let found = class::alike(first(out, at), theirs);
+    let at = has32(theirs, has(theirs, 0, 0), types::nanoseconds(fraction));
+    let found = class::alike(accepted(theirs, at), theirs);
     if found != class::UNEXPLAINED {
         return found;
     }
@@ -107,10 +97,7 @@ pub fn nanoseconds(request: &[u8], theirs: &[u8], out: &mut [u8]) -> usize {
     if number32(theirs, 1) as u64 != uncut(fraction) {
         return class::UNEXPLAINED;
     }
-    if octet(theirs, 0) != 0 {
-        return class::UNEXPLAINED;
-    }
-    class::LARGE_FRACTION
+    class::explained_if(octet(theirs, 0) == 0, class::LARGE_FRACTION)
 }
 
 // What the Rust answers: the nanoseconds of all 32 bits, cut to 32 bits.
@@ -132,12 +119,11 @@ fn time_of(request: &[u8]) -> Timestamp {
     }
 }
 
-pub fn timestamp_octets(request: &[u8], theirs: &[u8], out: &mut [u8]) -> usize {
+pub fn timestamp_octets(request: &[u8], theirs: &[u8]) -> usize {
     let t = time_of(request);
     let q = t.quality;
     let octets = t.to_bytes();
-    let at = put(out, 0, 0);
-    let at = put_octets(out, at, &octets);
-    let at = put_accuracy(out, at, q);
-    class::alike(first(out, at), theirs)
+    let at = has_octets(theirs, has(theirs, 0, 0), &octets);
+    let at = has16(theirs, at, accuracy(q));
+    class::alike(accepted(theirs, at), theirs)
 }

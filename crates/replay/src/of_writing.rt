@@ -1,14 +1,15 @@
 // The kinds e and s: the writer, and the size of what it writes.
-use crate::answer::put;
-use crate::answer::put_octets;
-use crate::answer::put_refusal;
-use crate::answer::put32;
+use crate::answer::Ours;
+use crate::answer::accepted;
+use crate::answer::has;
+use crate::answer::has_octets;
+use crate::answer::has32;
+use crate::answer::refused;
 use crate::class;
 use crate::description;
+use crate::octets::after;
 use crate::octets::first;
 use crate::writing_class;
-use rt_services::EthernetHeader;
-use rt_services::SavDataSetConfig;
 use rt_services::SavPdu;
 use rt_services::Written;
 
@@ -25,145 +26,116 @@ fn number_of(number: usize, out_of_range: bool) -> usize {
     }
 }
 
-fn put_frame(out: &mut [u8], written: Written, out_of_range: bool, frame: &[u8]) -> usize {
+// The answer of a writer with its frame, held against the Rust's.
+fn ours_of(theirs: &[u8], written: Written, out_of_range: bool, frame: &[u8]) -> Ours {
     match written {
-        Written::Refused(r) => put_refusal(out, number_of(r.number, out_of_range), r.place),
+        Written::Refused(r) => refused(number_of(r.number, out_of_range), r.place),
         Written::At(n) => {
             if out_of_range {
-                return put_refusal(out, 11, 0);
+                return refused(11, 0);
             }
-            let at = put(out, 0, 0);
-            put_octets(out, at, first(frame, n))
+            accepted(theirs, has_octets(theirs, has(theirs, 0, 0), first(frame, n)))
         }
     }
 }
 
-fn write(
-    out: &mut [u8],
-    header: EthernetHeader,
-    pdu: SavPdu,
-    channels: usize,
+// What the writer of counts answers.
+fn of_counts(
+    request: &[u8],
+    theirs: &[u8],
     counts: &[i32],
     qualities: &[u32],
     out_of_range: bool,
-) -> usize {
+) -> Ours {
     let mut frame = [0u8; SavPdu::MAX_FRAME];
+    let pdu = after(request, description::PDU);
     let written = encode_smv::encode_smv(
-        header,
-        pdu,
-        channels,
+        description::header(request),
+        description::pdu_of(pdu),
+        description::channels(pdu),
         false,
         counts,
         qualities,
         &mut frame,
     );
-    put_frame(out, written, out_of_range, &frame)
+    ours_of(theirs, written, out_of_range, &frame)
 }
 
-// Whether the writer that takes values gives the same answer.
-fn same_of_values(
-    ours: &[u8],
-    header: EthernetHeader,
-    pdu: SavPdu,
-    config: SavDataSetConfig,
-    values: &[f32],
-    qualities: &[u32],
-) -> bool {
-    let mut again = [0u8; SavPdu::MAX_FRAME + 1];
+// What the writer of values answers.
+fn of_values(request: &[u8], theirs: &[u8], qualities: &[u32]) -> Ours {
     let mut frame = [0u8; SavPdu::MAX_FRAME];
+    let pdu = after(request, description::PDU);
+    let mut values = [0.0; description::SAMPLES];
+    description::fill_values(pdu, &mut values);
     let written = encode_values::encode_values(
-        header,
-        pdu,
-        config,
+        description::header(request),
+        description::pdu_of(pdu),
+        description::data_set(pdu),
         false,
-        values,
+        &values,
         qualities,
         &mut frame,
     );
-    let at = put_frame(&mut again, written, false, &frame);
-    check::same(ours, first(&again, at))
-}
-
-// What the two writers answer, the one of counts after the counts have been worked out.
-fn encode_both(
-    request: &[u8],
-    theirs: &[u8],
-    out: &mut [u8],
-    marks: usize,
-    values: &[f32],
-    counts: &[i32],
-    qualities: &[u32],
-) -> usize {
-    let header = description::header(request);
-    let pdu = description::pdu(request);
-    let config = description::data_set(request);
-    let at = write(
-        out,
-        header,
-        pdu,
-        config.channels,
-        counts,
-        qualities,
-        marks % 2 == 1,
-    );
-    let found = writing_class::class_of(request, theirs, first(out, at), marks / 2 % 2 == 1);
-    if marks / 4 == 1 {
-        return writing_class::of_counts_alone(found);
-    }
-    if same_of_values(first(out, at), header, pdu, config, values, qualities) {
-        return found;
-    }
-    class::UNEXPLAINED
+    ours_of(theirs, written, false, &frame)
 }
 
 // Whether quality words of 2^13 or more are refused.
-fn refuses_words(request: &[u8], counts: &[i32], words: &[u32]) -> bool {
-    let mut out = [0u8; SavPdu::MAX_FRAME + 1];
-    let header = description::header(request);
-    let pdu = description::pdu(request);
-    let channels = description::channels(request);
-    let at = write(&mut out, header, pdu, channels, counts, words, false);
-    writing_class::refused_as_described(first(&out, at))
+fn refuses_words(request: &[u8], theirs: &[u8], counts: &[i32]) -> bool {
+    let mut words = [0u32; description::SAMPLES];
+    description::fill_words(after(request, description::PDU), &mut words);
+    writing_class::refused_as_described(of_counts(request, theirs, counts, &words, false))
 }
 
-pub fn encode(request: &[u8], theirs: &[u8], out: &mut [u8]) -> usize {
+// Whether two answers to one request are the same, where one that is accepted is the Rust's.
+fn agree(a: Ours, b: Ours) -> bool {
+    a.number == b.number && a.place == b.place && a.same == b.same
+}
+
+// What the two writers answer, the one of counts after the counts have been worked out.
+pub fn encode(request: &[u8], theirs: &[u8]) -> usize {
     let undescribed = writing_class::undescribed(request);
     if undescribed != class::ANSWERED {
         return undescribed;
     }
-    let mut values = [0.0; description::SAMPLES];
+    let pdu = after(request, description::PDU);
+    let marks = description::marks(pdu);
+    let wide = marks / 2 % 2 == 1;
     let mut counts = [0i32; description::SAMPLES];
+    description::fill_counts(pdu, &mut counts);
     let mut qualities = [0u32; description::SAMPLES];
-    let mut words = [0u32; description::SAMPLES];
-    let marks = description::take_samples(
-        request,
-        &mut values,
-        &mut counts,
-        &mut qualities,
-        &mut words,
-    );
-    if marks / 2 % 2 == 1 {
-        if !refuses_words(request, &counts, &words) {
-            return class::UNEXPLAINED;
+    description::fill_qualities(pdu, &mut qualities);
+    let ours = of_counts(request, theirs, &counts, &qualities, marks % 2 == 1);
+    let found = writing_class::class_of(request, theirs, ours, wide);
+    if wide && !refuses_words(request, theirs, &counts) {
+        return class::UNEXPLAINED;
+    }
+    if marks / 4 == 1 {
+        return writing_class::of_counts_alone(found);
+    }
+    class::explained_if(agree(ours, of_values(request, theirs, &qualities)), found)
+}
+
+fn size_of(theirs: &[u8], sized: Written) -> Ours {
+    match sized {
+        Written::Refused(r) => refused(r.number, r.place),
+        Written::At(n) => {
+            let at = has32(theirs, has(theirs, 0, 0), (n % 4294967296) as u32);
+            accepted(theirs, at)
         }
     }
-    encode_both(request, theirs, out, marks, &values, &counts, &qualities)
 }
 
-pub fn size(request: &[u8], theirs: &[u8], out: &mut [u8]) -> usize {
+pub fn size(request: &[u8], theirs: &[u8]) -> usize {
     let undescribed = writing_class::undescribed(request);
     if undescribed != class::ANSWERED {
         return undescribed;
     }
-    let channels = description::channels(request);
-    let header = description::header(request);
-    let pdu = description::pdu(request);
-    let sized = encode_smv::smv_size(header, pdu, channels, false);
-    let Written::At(n) = sized else {
-        let at = put_refusal(out, writing_class::refused_as(sized), 0);
-        return writing_class::class_of(request, theirs, first(out, at), false);
-    };
-    let at = put(out, 0, 0);
-    let at = put32(out, at, (n % 4294967296) as u32);
-    writing_class::class_of(request, theirs, first(out, at), false)
+    let pdu = after(request, description::PDU);
+    let sized = encode_smv::smv_size(
+        description::header(request),
+        description::pdu_of(pdu),
+        description::channels(pdu),
+        false,
+    );
+    writing_class::class_of(request, theirs, size_of(theirs, sized), false)
 }

@@ -1,4 +1,5 @@
 // The class of two answers of a reader. The Rust has no limits, and panics where this project refuses.
+use crate::answer::Ours;
 use crate::class;
 use crate::description;
 use crate::octets::after;
@@ -80,38 +81,23 @@ fn above(s: &[u8], start: usize, place: usize) -> bool {
 }
 
 // Refused 4: what stands at the place is above its limit. Where the Rust refuses, it does so there or further on.
-fn limit(s: &[u8], start: usize, theirs: &[u8], ours: &[u8]) -> usize {
-    let place = number64(ours, 2);
+fn limit(s: &[u8], start: usize, theirs: &[u8], place: usize) -> usize {
     if !above(s, start, place) {
         return class::UNEXPLAINED;
     }
     match octet(theirs, 0) {
         0 => class::LIMIT_ANSWERED,
-        1 => {
-            if number64(theirs, 2) < place {
-                return class::UNEXPLAINED;
-            }
-            class::LIMIT_REFUSED
-        }
+        1 => class::explained_if(place <= number64(theirs, 2), class::LIMIT_REFUSED),
         _ => class::LIMIT_PANICKED,
     }
 }
 
-// The class where the Rust answered, with a header and a PDU in which something has to be above a limit.
-pub fn with_answer(found: usize, answer: &[u8]) -> usize {
+// The class where the Rust answered, with a PDU in which something has to be above a limit.
+pub fn with_answer(found: usize, pdu: &[u8]) -> usize {
     if found != class::LIMIT_ANSWERED {
         return found;
     }
-    if SavPdu::MAX_ASDUS < description::records(answer) {
-        return found;
-    }
-    if SavPdu::MAX_SECURITY < description::security_length(answer) {
-        return found;
-    }
-    if writing_class::has_long_text(answer) {
-        return found;
-    }
-    class::UNEXPLAINED
+    class::explained_if(writing_class::above_limit(pdu), found)
 }
 
 // Whether a place is that of the first content octet of refrTm, by the tag 84 and the length octets before it.
@@ -131,23 +117,22 @@ fn after_84(s: &[u8], place: usize) -> bool {
     false
 }
 
+// The place of the PDU in a frame.
+fn pdu_at(s: &[u8]) -> usize {
+    if number16(s, 12) == 0x8100 {
+        return 26;
+    }
+    22
+}
+
 // Whether octets are too few for the header.
 fn lacks_header(s: &[u8]) -> bool {
-    if s.len() < 18 {
-        return true;
-    }
-    if 21 < s.len() {
-        return false;
-    }
-    number16(s, 12) == 0x8100
+    s.len() < 18 || (s.len() < 22 && pdu_at(s) == 26)
 }
 
 // Refused 1 where the Rust panics by an index: an octet past the end.
 fn past_end(s: &[u8], place: usize) -> usize {
-    if place == s.len() {
-        return class::PANIC_AT_END;
-    }
-    class::UNEXPLAINED
+    class::explained_if(place == s.len(), class::PANIC_AT_END)
 }
 
 // Refused 1 where the Rust panics by a range: fewer than 8 octets of refrTm.
@@ -158,43 +143,30 @@ fn lacks_refr_tm(s: &[u8], place: usize) -> usize {
     if 7 < s.len() - place {
         return class::UNEXPLAINED;
     }
-    if after_84(s, place) {
-        return class::PANIC_REFR_TM;
-    }
-    class::UNEXPLAINED
+    class::explained_if(after_84(s, place), class::PANIC_REFR_TM)
 }
 
-// Refused 5 where the Rust panics by a copy: gmIdentity above 8 octets.
-fn long_gm_identity(s: &[u8], place: usize) -> usize {
-    if longer(s, place, 8) {
-        return class::PANIC_GM_IDENTITY;
-    }
-    class::UNEXPLAINED
-}
-
-// The Rust panics, by an index (1) or by a range or a copy (2).
-fn panicked(s: &[u8], theirs: &[u8], ours: &[u8]) -> usize {
-    let place = number64(ours, 2);
+// The Rust panics, by an index (1) or by a range or a copy (2). Refused 5 where it does so by a copy: gmIdentity above 8
+// octets.
+fn panicked(s: &[u8], theirs: &[u8], ours: Ours) -> usize {
     let by = octet(theirs, 1);
-    match number16(ours, 0) {
-        257 => {
-            if by == 1 {
-                return past_end(s, place);
-            }
-            lacks_refr_tm(s, place)
-        }
-        261 => {
-            if by == 2 {
-                return long_gm_identity(s, place);
-            }
-            class::UNEXPLAINED
-        }
-        _ => class::UNEXPLAINED,
+    if ours.number == 5 {
+        return class::explained_if(
+            by == 2 && longer(s, ours.place, 8),
+            class::PANIC_GM_IDENTITY,
+        );
     }
+    if ours.number != 1 {
+        return class::UNEXPLAINED;
+    }
+    if by == 1 {
+        return past_end(s, ours.place);
+    }
+    lacks_refr_tm(s, ours.place)
 }
 
 // The class where a frame is shorter than its header, which is refused before any limit.
-pub fn of_header(s: &[u8], theirs: &[u8], ours: &[u8]) -> usize {
+pub fn of_header(s: &[u8], theirs: &[u8], ours: Ours) -> usize {
     if octet(theirs, 0) != class::PANICKED {
         return class::UNEXPLAINED;
     }
@@ -202,31 +174,26 @@ pub fn of_header(s: &[u8], theirs: &[u8], ours: &[u8]) -> usize {
 }
 
 // The class of the frame reader's answers.
-pub fn class_of_frame(s: &[u8], channels: usize, theirs: &[u8], ours: &[u8]) -> usize {
-    let answer = after(theirs, 1);
+pub fn class_of_frame(s: &[u8], channels: usize, theirs: &[u8], ours: Ours) -> usize {
     if channels <= SavDataSetConfig::MAX_CHANNELS {
         if lacks_header(s) {
             return of_header(s, theirs, ours);
         }
     }
-    if number16(s, 12) == 0x8100 {
-        return with_answer(class_of(s, 26, channels, theirs, ours), answer);
-    }
-    with_answer(class_of(s, 22, channels, theirs, ours), answer)
+    let found = class_of(s, pdu_at(s), channels, theirs, ours);
+    with_answer(found, after(theirs, 1 + description::PDU))
 }
 
 // The class of the answers for a PDU from start on.
-pub fn class_of(s: &[u8], start: usize, channels: usize, theirs: &[u8], ours: &[u8]) -> usize {
+pub fn class_of(s: &[u8], start: usize, channels: usize, theirs: &[u8], ours: Ours) -> usize {
     if SavDataSetConfig::MAX_CHANNELS < channels {
-        if number16(ours, 0) == 264 {
-            if number64(ours, 2) == 0 {
-                return class::MANY_CHANNELS;
-            }
-        }
-        return class::UNEXPLAINED;
+        return class::explained_if(
+            ours.number == 8 && ours.place == 0,
+            class::MANY_CHANNELS,
+        );
     }
-    if number16(ours, 0) == 260 {
-        return limit(s, start, theirs, ours);
+    if ours.number == 4 {
+        return limit(s, start, theirs, ours.place);
     }
     if octet(theirs, 0) == class::PANICKED {
         return panicked(s, theirs, ours);

@@ -1,7 +1,6 @@
 // The lossy UTF-8 reading of octets, as the Rust's String::from_utf8_lossy has it: EF BF BD stands for each longest part of
 // a character that isn't whole, and for each octet that starts none.
-use crate::answer::put;
-use crate::answer::put_octets;
+use crate::answer::has_octets;
 use crate::octets::octet;
 use crate::octets::part;
 use crate::octets::plus;
@@ -75,22 +74,20 @@ fn belonging(s: &[u8], at: usize, width: usize) -> usize
 }
 
 // One character, or EF BF BD.
-fn put_character(out: &mut [u8], at: usize, s: &[u8], width: usize) -> usize {
+fn has_character(theirs: &[u8], at: usize, s: &[u8], width: usize) -> usize {
     if width == s.len() {
-        return put_octets(out, at, s);
+        return has_octets(theirs, at, s);
     }
-    let at = put(out, at, 0xef);
-    let at = put(out, at, 0xbf);
-    put(out, at, 0xbd)
+    has_octets(theirs, at, b"\xef\xbf\xbd")
 }
 
-pub fn put_lossy(out: &mut [u8], at: usize, s: &[u8]) -> usize {
+pub fn has_lossy(theirs: &[u8], at: usize, s: &[u8]) -> usize {
     let mut to = at;
     let mut i = 0;
     while i < s.len() {
         let w = width(s[i]);
         let n = belonging(s, i, w);
-        to = put_character(out, to, part(s, i, n), w);
+        to = has_character(theirs, to, part(s, i, n), w);
         if s.len() - i < n {
             return to;
         }

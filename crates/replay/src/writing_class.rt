@@ -1,29 +1,29 @@
 // The class of two answers of the writer or of the size. The Rust has no limits, and its records hold what a description of
 // this project can't.
+use crate::answer::Ours;
 use crate::class;
 use crate::description;
+use crate::octets::after;
 use crate::octets::less;
 use crate::octets::number16;
 use crate::octets::number32;
-use crate::octets::number64;
 use crate::octets::octet;
 use crate::octets::plus;
 use rt_services::SavAsdu;
 use rt_services::SavDataSetConfig;
 use rt_services::SavPdu;
-use rt_services::Written;
 
 // Whether every ASDU has as many samples as the first.
-fn even(request: &[u8]) -> bool {
-    let n = description::records(request);
-    let channels = description::channels(request);
-    let mut at = description::first_record(request);
+fn even(pdu: &[u8]) -> bool {
+    let n = description::records(pdu);
+    let channels = description::channels(pdu);
+    let mut at = description::first_record(pdu);
     let mut k = 0;
     while k < n {
-        if description::samples(request, at) != channels {
+        if description::samples(pdu, at) != channels {
             return false;
         }
-        at = description::next_record(request, at);
+        at = description::next_record(pdu, at);
         k += 1;
     }
     true
@@ -34,33 +34,33 @@ pub fn undescribed(request: &[u8]) -> usize {
     if 1 < octet(request, 12) {
         return class::HALF_TAG;
     }
-    if number16(request, 24) as usize != description::records(request) {
+    let pdu = after(request, description::PDU);
+    if number16(pdu, 1) as usize != description::records(pdu) {
         return class::OTHER_COUNT;
     }
-    if !even(request) {
+    if !even(pdu) {
         return class::UNEVEN;
     }
     class::ANSWERED
 }
 
 // Whether a text of an ASDU record is above the limit.
-fn long_texts(request: &[u8], record: usize) -> bool {
-    if SavAsdu::MAX_TEXT < number16(request, record) as usize {
+fn long_texts(pdu: &[u8], record: usize) -> bool {
+    if SavAsdu::MAX_TEXT < number16(pdu, record) as usize {
         return true;
     }
-    SavAsdu::MAX_TEXT
-        < number16(request, plus(description::dat_set_at(request, record), 1)) as usize
+    SavAsdu::MAX_TEXT < number16(pdu, plus(description::dat_set_at(pdu, record), 1)) as usize
 }
 
-pub fn has_long_text(request: &[u8]) -> bool {
-    let n = description::records(request);
-    let mut at = description::first_record(request);
+fn has_long_text(pdu: &[u8]) -> bool {
+    let n = description::records(pdu);
+    let mut at = description::first_record(pdu);
     let mut k = 0;
     while k < n {
-        if long_texts(request, at) {
+        if long_texts(pdu, at) {
             return true;
         }
-        at = description::next_record(request, at);
+        at = description::next_record(pdu, at);
         k += 1;
     }
     false
@@ -76,21 +76,24 @@ fn bad_header(request: &[u8]) -> bool {
     number16(request, 13) != 0x8100
 }
 
+// Whether the number of ASDUs, security or a text is above its limit.
+pub fn above_limit(pdu: &[u8]) -> bool {
+    if SavPdu::MAX_ASDUS < description::records(pdu) {
+        return true;
+    }
+    if SavPdu::MAX_SECURITY < description::security_length(pdu) {
+        return true;
+    }
+    has_long_text(pdu)
+}
+
 // Whether refusal 9 is due: number of ASDUs, header, security or a text.
 fn outside(request: &[u8]) -> bool {
-    if description::records(request) == 0 {
+    let pdu = after(request, description::PDU);
+    if description::records(pdu) == 0 || bad_header(request) {
         return true;
     }
-    if SavPdu::MAX_ASDUS < description::records(request) {
-        return true;
-    }
-    if bad_header(request) {
-        return true;
-    }
-    if SavPdu::MAX_SECURITY < description::security_length(request) {
-        return true;
-    }
-    has_long_text(request)
+    above_limit(pdu)
 }
 
 // The class, told apart where an ASDU has other scale factors than the first, so that only the writer of counts was asked.
@@ -101,23 +104,9 @@ pub fn of_counts_alone(found: usize) -> usize {
     found
 }
 
-// The number of a refusal.
-pub fn refused_as(written: Written) -> usize {
-    match written {
-        Written::Refused(r) => r.number,
-        Written::At(_) => 0,
-    }
-}
-
 // Whether an answer is refusal 8 or 9, place 0.
-pub fn refused_as_described(ours: &[u8]) -> bool {
-    if number64(ours, 2) != 0 {
-        return false;
-    }
-    if number16(ours, 0) == 264 {
-        return true;
-    }
-    number16(ours, 0) == 265
+pub fn refused_as_described(ours: Ours) -> bool {
+    ours.place == 0 && (ours.number == 8 || ours.number == 9)
 }
 
 // The Rust's PDU octets: of a frame, or of a size.
@@ -130,28 +119,19 @@ fn their_pdu(request: &[u8], theirs: &[u8]) -> usize {
 }
 
 // The class of refusal 8, 9, 10 or 11, place 0.
-fn refused(request: &[u8], theirs: &[u8], ours: &[u8]) -> usize {
-    if number64(ours, 2) != 0 {
+fn refused(request: &[u8], theirs: &[u8], ours: Ours) -> usize {
+    if ours.place != 0 {
         return class::UNEXPLAINED;
     }
-    match octet(ours, 1) {
+    let number = ours.number;
+    match number {
         8 => class::MANY_CHANNELS,
         9 => outside_class(request, theirs),
-        10 => {
-            if octet(theirs, 0) != 0 {
-                return class::UNEXPLAINED;
-            }
-            if their_pdu(request, theirs) <= SavPdu::MAX_OCTETS {
-                return class::UNEXPLAINED;
-            }
-            class::LONG_PDU
-        }
-        11 => {
-            if number16(theirs, 0) == 267 {
-                return class::PLACE_0;
-            }
-            class::UNEXPLAINED
-        }
+        10 => class::explained_if(
+            octet(theirs, 0) == 0 && SavPdu::MAX_OCTETS < their_pdu(request, theirs),
+            class::LONG_PDU,
+        ),
+        11 => class::explained_if(number16(theirs, 0) == 267, class::PLACE_0),
         _ => class::UNEXPLAINED,
     }
 }
@@ -170,21 +150,17 @@ fn outside_class(request: &[u8], theirs: &[u8]) -> usize {
 }
 
 // The class of two answers; wide: a quality word is of 2^13 or more in the request, and was cleared to what Quality holds.
-pub fn class_of(request: &[u8], theirs: &[u8], ours: &[u8], wide: bool) -> usize {
-    if SavDataSetConfig::MAX_CHANNELS < description::channels(request) {
-        if octet(ours, 1) != 8 {
-            return class::UNEXPLAINED;
-        }
+pub fn class_of(request: &[u8], theirs: &[u8], ours: Ours, wide: bool) -> usize {
+    if SavDataSetConfig::MAX_CHANNELS < description::channels(after(request, description::PDU)) {
+        return class::explained_if(
+            ours.number == 8 && ours.place == 0,
+            class::MANY_CHANNELS,
+        );
+    }
+    if ours.number != 0 {
         return refused(request, theirs, ours);
     }
-    if octet(ours, 0) == 1 {
-        return refused(request, theirs, ours);
-    }
-    let found = class::alike(ours, theirs);
-    if found != class::ANSWERED {
-        return class::UNEXPLAINED;
-    }
-    if outside(request) {
+    if !ours.same || outside(request) {
         return class::UNEXPLAINED;
     }
     if wide {

@@ -1,16 +1,16 @@
 -- Each turn takes one octet. The slices that are written keep their lengths.
 use mathlib.Core.Path.{_≡_}
-use Prim.Native.Nat.{_-_}
+use Prim.Native.Nat.{_≤_, _-_}
 use borrow.Author.Needs.{needs}
 use lib.ListN.{length}
 use Rattle.replay.proofs.take_all.Statement.{statement}
 use Rattle.replay.proofs.take_all.Tie as tie
 
 abbrev Inv-loop : tie.InvT-loop
-Inv-loop chunk line₀ request₀ theirs₀ ours₀ state₀ counts₀ i₀ line request theirs ours state counts i = (length line ≡ length line₀) × (length request ≡ length request₀) × (length theirs ≡ length theirs₀) × (length ours ≡ length ours₀) × (length state ≡ length state₀) × (length counts ≡ length counts₀)
+Inv-loop chunk line₀ numbers₀ i₀ line numbers i = (length line ≡ length line₀) × (length numbers ≡ length numbers₀) × (i ≤ length chunk)
 
 abbrev μ-loop : tie.MeasureT-loop
-μ-loop chunk line₀ request₀ theirs₀ ours₀ state₀ counts₀ i₀ line request theirs ours state counts i = length chunk - i
+μ-loop chunk line₀ numbers₀ i₀ line numbers i = length chunk - i
 
 loop-holds : tie.Need-loop-holds Inv-loop μ-loop
 loop-holds c = search needs
@@ -36,18 +36,6 @@ same-length c = search needs
 same-length-2 : tie.Need-same-length-2 Inv-loop μ-loop
 same-length-2 c = search needs
 
-same-length-3 : tie.Need-same-length-3 Inv-loop μ-loop
-same-length-3 c = search needs
-
-same-length-4 : tie.Need-same-length-4 Inv-loop μ-loop
-same-length-4 c = search needs
-
-same-length-5 : tie.Need-same-length-5 Inv-loop μ-loop
-same-length-5 c = search needs
-
-same-length-6 : tie.Need-same-length-6 Inv-loop μ-loop
-same-length-6 c = search needs
-
 returns : tie.Need-returns Inv-loop μ-loop
 returns c = search needs
 
@@ -65,8 +53,4 @@ take-all-spec =
     loop-again
     same-length
     same-length-2
-    same-length-3
-    same-length-4
-    same-length-5
-    same-length-6
     returns)

@@ -1,20 +1,20 @@
--- Each turn prints the count of one class.
+-- Each turn prints one count.
 use Prim.Native.Nat.{_≤_, _-_}
 use borrow.Author.Needs.{needs}
-use Rattle.replay.proofs.print_kind.Statement.{statement}
-use Rattle.replay.proofs.print_kind.Tie as tie
+use Rattle.replay.proofs.print_counts.Statement.{statement}
+use Rattle.replay.proofs.print_counts.Tie as tie
 
 abbrev Inv-loop : tie.InvT-loop
-Inv-loop kind counts class₀ class = class ≤ 33
+Inv-loop numbers i₀ i = i ≤ 8448
 
 abbrev μ-loop : tie.MeasureT-loop
-μ-loop kind counts class₀ class = 33 - class
+μ-loop numbers i₀ i = 8448 - i
 
 loop-holds : tie.Need-loop-holds Inv-loop μ-loop
 loop-holds c = search needs
 
-slot-requires : tie.Need-slot-requires Inv-loop μ-loop
-slot-requires c κs = search needs
+cast-print-count : tie.Need-cast-print-count Inv-loop μ-loop
+cast-print-count c = search needs
 
 get-requires : tie.Need-get-requires Inv-loop μ-loop
 get-requires c κs = search needs
@@ -22,8 +22,8 @@ get-requires c κs = search needs
 print-count-requires : tie.Need-print-count-requires Inv-loop μ-loop
 print-count-requires c κs = search needs
 
-add-class : tie.Need-add-class Inv-loop μ-loop
-add-class c = search needs
+add-i : tie.Need-add-i Inv-loop μ-loop
+add-i c = search needs
 
 loop-less : tie.Need-loop-less Inv-loop μ-loop
 loop-less c = search needs
@@ -34,17 +34,17 @@ loop-again c = search needs
 returns : tie.Need-returns Inv-loop μ-loop
 returns c = search needs
 
-pub print-kind-spec : {M : Type 1} → statement M
-print-kind-spec =
+pub print-counts-spec : {M : Type 1} → statement M
+print-counts-spec =
     tie.close
     (tie.spec
     Inv-loop
     μ-loop
     loop-holds
-    slot-requires
+    cast-print-count
     get-requires
     print-count-requires
-    add-class
+    add-i
     loop-less
     loop-again
     returns)

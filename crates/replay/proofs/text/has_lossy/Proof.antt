@@ -1,16 +1,15 @@
--- Each turn passes at least one octet. The slice that is written keeps its length.
-use mathlib.Core.Path.{_≡_}
+-- Each turn passes at least one octet.
 use Prim.Native.Nat.{_≤_, _-_}
 use borrow.Author.Needs.{needs}
 use lib.ListN.{length}
-use Rattle.replay.proofs.text.put_lossy.Statement.{statement}
-use Rattle.replay.proofs.text.put_lossy.Tie as tie
+use Rattle.replay.proofs.text.has_lossy.Statement.{statement}
+use Rattle.replay.proofs.text.has_lossy.Tie as tie
 
 abbrev Inv-loop : tie.InvT-loop
-Inv-loop out₀ at s to₀ i₀ out to i = (length out ≡ length out₀) × (i ≤ length s)
+Inv-loop theirs at s to₀ i₀ to i = i ≤ length s
 
 abbrev μ-loop : tie.MeasureT-loop
-μ-loop out₀ at s to₀ i₀ out to i = length s - i
+μ-loop theirs at s to₀ i₀ to i = length s - i
 
 loop-holds : tie.Need-loop-holds Inv-loop μ-loop
 loop-holds c = search needs
@@ -27,14 +26,11 @@ belonging-requires c κs = search needs
 part-requires : tie.Need-part-requires Inv-loop μ-loop
 part-requires c κs = search needs
 
-put-character-requires : tie.Need-put-character-requires Inv-loop μ-loop
-put-character-requires c κs = search needs
+has-character-requires : tie.Need-has-character-requires Inv-loop μ-loop
+has-character-requires c κs = search needs
 
 sub-if1 : tie.Need-sub-if1 Inv-loop μ-loop
 sub-if1 c = search needs
-
-same-length : tie.Need-same-length Inv-loop μ-loop
-same-length c = search needs
 
 returns : tie.Need-returns Inv-loop μ-loop
 returns c = search needs
@@ -48,14 +44,11 @@ loop-less c = search needs
 loop-again : tie.Need-loop-again Inv-loop μ-loop
 loop-again c = search needs
 
-same-length-2 : tie.Need-same-length-2 Inv-loop μ-loop
-same-length-2 c = search needs
-
 returns-2 : tie.Need-returns-2 Inv-loop μ-loop
 returns-2 c = search needs
 
-pub put-lossy-spec : {M : Type 1} → statement M
-put-lossy-spec =
+pub has-lossy-spec : {M : Type 1} → statement M
+has-lossy-spec =
     tie.close
     (tie.spec
     Inv-loop
@@ -65,12 +58,10 @@ put-lossy-spec =
     width-requires
     belonging-requires
     part-requires
-    put-character-requires
+    has-character-requires
     sub-if1
-    same-length
     returns
     add-i
     loop-less
     loop-again
-    same-length-2
     returns-2)

@@ -1,16 +1,14 @@
--- Each turn writes one ASDU. The slice that is written keeps its length.
-use mathlib.Core.Path.{_≡_}
+-- Each turn passes one ASDU.
 use Prim.Native.Nat.{_≤_, _-_}
 use borrow.Author.Needs.{needs}
-use lib.ListN.{length}
-use Rattle.replay.proofs.of_reading.put_asdus.Statement.{statement}
-use Rattle.replay.proofs.of_reading.put_asdus.Tie as tie
+use Rattle.replay.proofs.of_reading.has_asdus.Statement.{statement}
+use Rattle.replay.proofs.of_reading.has_asdus.Tie as tie
 
 abbrev Inv-loop : tie.InvT-loop
-Inv-loop out₀ at scales counts qualities r n to₀ base₀ k₀ out to base k = (length out ≡ length out₀) × (n ≤ 8) × (k ≤ n)
+Inv-loop theirs at scales counts qualities r n to₀ base₀ k₀ to base k = (n ≤ 8) × (k ≤ n)
 
 abbrev μ-loop : tie.MeasureT-loop
-μ-loop out₀ at scales counts qualities r n to₀ base₀ k₀ out to base k = n - k
+μ-loop theirs at scales counts qualities r n to₀ base₀ k₀ to base k = n - k
 
 cast-n : tie.Need-cast-n Inv-loop μ-loop
 cast-n c = search needs
@@ -27,8 +25,17 @@ mul-a c = search needs
 element-copy-out-a : tie.Need-element-copy-out-a Inv-loop μ-loop
 element-copy-out-a c = search needs
 
-put-asdu-requires : tie.Need-put-asdu-requires Inv-loop μ-loop
-put-asdu-requires c κs = search needs
+has-texts-requires : tie.Need-has-texts-requires Inv-loop μ-loop
+has-texts-requires c κs = search needs
+
+has-counters-requires : tie.Need-has-counters-requires Inv-loop μ-loop
+has-counters-requires c κs = search needs
+
+has-optional-requires : tie.Need-has-optional-requires Inv-loop μ-loop
+has-optional-requires c κs = search needs
+
+has-samples-requires : tie.Need-has-samples-requires Inv-loop μ-loop
+has-samples-requires c κs = search needs
 
 plus-requires : tie.Need-plus-requires Inv-loop μ-loop
 plus-requires c κs = search needs
@@ -42,14 +49,11 @@ loop-less c = search needs
 loop-again : tie.Need-loop-again Inv-loop μ-loop
 loop-again c = search needs
 
-same-length : tie.Need-same-length Inv-loop μ-loop
-same-length c = search needs
-
 returns-2 : tie.Need-returns-2 Inv-loop μ-loop
 returns-2 c = search needs
 
-pub put-asdus-spec : {M : Type 1} → statement M
-put-asdus-spec =
+pub has-asdus-spec : {M : Type 1} → statement M
+has-asdus-spec =
     tie.close
     (tie.spec
     Inv-loop
@@ -59,10 +63,12 @@ put-asdus-spec =
     loop-holds
     mul-a
     element-copy-out-a
-    put-asdu-requires
+    has-texts-requires
+    has-counters-requires
+    has-optional-requires
+    has-samples-requires
     plus-requires
     add-k
     loop-less
     loop-again
-    same-length
     returns-2)
