@@ -1,4 +1,3 @@
-pub mod Crosses
 pub mod Customer
 pub mod Alike
 pub mod Sets

@@ -4,63 +4,19 @@
 // refusal changes none of the arrays.
 // `fixed` is the form of the counters: fixed, or else shortest.
 ghost use mathlib.Core.Path.{_≡_};
-ghost use Prim.Native.Nat.{_*_, _≤_};
+ghost use Prim.Native.Nat.{_*_};
 ghost use lib.ListN.{length};
 ghost use Rattle.definition.specs.Read.{isSmvFrame};
 ghost use Rattle.definition.specs.Frame.{frameOctets};
-ghost use Rattle.definition.specs.Answers.{over};
 ghost use Rattle.definition.specs.Scaling.{valuesAnswer, valuesOf};
-ghost use Rattle.definition.specs.Flat.{headerNumbers, headerOctets, numbersOfHeader, octetsOfHeader, flatDescription, flatHeader, flatRead, flatDecode, flatStrict, flatEncode, flatEncodeValues, flatSize, numberOf, besideIt, flatCounts, flatCountsGiven, flatDescribedBy};
+ghost use Rattle.definition.specs.Flat.{flatDescription, flatHeader, flatRead, flatDecode, flatStrict, flatEncode, flatEncodeValues, flatSize, numberOf, besideIt, flatCounts, flatCountsGiven, flatDescribedBy};
 ghost use Rattle.grant.specs.Grant.{flatGranted};
 ghost use Rattle.fit.specs.Fit.{flatChecked};
 ghost use Rattle.data_sets.specs.DataSets.{flatReadBy, storeOf, channelsOf, Adds, ReadsBy};
 ghost use Rattle.rt_services.specs.DataSet.{dataSetOf};
-ghost use Rattle.rt_services.specs.Describe.{headerOf};
-ghost use Rattle.rt_services.specs.Told.{toldWritten};
 ghost use Rattle.definition.specs.Calls.{Reads, ReadsHeader, Writes};
-ghost use Rattle.hopsickle.specs.Crosses.{flatNumber, flatPlace};
-use ber_decode::Outcome;
-use rt_services::EthernetHeader;
-use rt_services::FlatRead;
-use rt_services::Presence;
-use rt_services::Refusal;
 use rt_services::SavDataSetConfig;
-use rt_services::Valued;
-use rt_services::Written;
-use set_store::Addition;
 use set_store::DataSets;
-
-// The number of a refusal, and its place; 0 and 0 where there is none.
-fn answer(read: FlatRead, place: &mut usize) -> usize
-    ensures { λ r. ⌜ (r ≡ flatNumber read) × (now (place .exit) ≡ flatPlace read) ⌝ }
-{
-    match read {
-        FlatRead::Refused(r) => {
-            *place = r.place;
-            r.number
-        }
-        FlatRead::Read => {
-            *place = 0;
-            0
-        }
-    }
-}
-
-// The number of a refusal and its place; or 0, and the octets written.
-fn written(w: Written, size: &mut usize) -> usize
-    ensures { λ r. ⌜ (r ≡ numberOf (toldWritten w)) × (now (size .exit) ≡ besideIt (λ n. n) (toldWritten w)) ⌝ }
-{
-    match w {
-        Written::Refused(r) => {
-            *size = r.place;
-            r.number
-        }
-        Written::At(n) => {
-            *size = n;
-            0
-        }
-    }
-}
 
 // Whether the EtherType is there, and is that of sampled values.
 #[no_mangle]
@@ -68,21 +24,6 @@ pub extern "C" fn hopsickle_is_smv(frame: &[u8]) -> bool
     ensures { λ r. ⌜ r ≡ isSmvFrame (now (frame .entry)) ⌝ }
 {
     ethernet_header::is_smv_frame(frame)
-}
-
-// A header's numbers and octets.
-fn put_header(header: EthernetHeader, numbers: &mut [u32], octets: &mut [u8])
-    requires { ⌜ (headerNumbers ≤ length (now numbers)) × (headerOctets ≤ length (now octets)) ⌝ }
-    ensures { λ _. ⌜ (now (numbers .exit) ≡ over (now (numbers .entry)) 0 (numbersOfHeader (headerOf header)))
-        × (now (octets .exit) ≡ over (now (octets .entry)) 0 (octetsOfHeader (headerOf header))) ⌝ }
-{
-    let mut own = [0u32; layout::MAX_NUMBERS];
-    flat_decode::numbers::put_head(&mut own, header, false, Presence::Absent, 0, 0);
-    flat_decode::numbers::copy(&own, numbers, layout::HEADER_NUMBERS);
-    let dst_addr = header.dst_addr;
-    let src_addr = header.src_addr;
-    ber_encode::put_bytes(octets, layout::DST_ADDR, &dst_addr);
-    ber_encode::put_bytes(octets, layout::SRC_ADDR, &src_addr);
 }
 
 // The header: the first 6 numbers and the first 12 octets, and the place after it.
@@ -96,25 +37,7 @@ pub extern "C" fn hopsickle_header(
     ensures { λ r. ⌜ ReadsHeader (flatHeader (length (now (numbers .entry))) (length (now (octets .entry))) (now (frame .entry)))
         (now (numbers .entry)) (now (numbers .exit)) (now (octets .entry)) (now (octets .exit)) r (now (place .exit)) ⌝ }
 {
-    let headed = ethernet_header::decode_ethernet_header(frame);
-    let step = headed.outcome;
-    let Outcome::Next(c) = step else {
-        let r = step.refusal();
-        *place = r.place;
-        return r.number;
-    };
-    if numbers.len() < layout::HEADER_NUMBERS {
-        *place = 0;
-        return Refusal::NO_ROOM;
-    }
-    if octets.len() < layout::HEADER_OCTETS {
-        *place = 0;
-        return Refusal::NO_ROOM;
-    }
-    let header = headed.header;
-    put_header(header, numbers, octets);
-    *place = c.at;
-    0
+    calls::header(frame, numbers, octets, place)
 }
 
 // A frame, the ordinary way.
@@ -132,7 +55,7 @@ pub extern "C" fn hopsickle_read(
         (now (numbers .entry)) (now (numbers .exit)) (now (octets .entry)) (now (octets .exit)) (now (counts .entry)) (now (counts .exit)) (now (qualities .entry)) (now (qualities .exit)) r (now (place .exit)) ⌝ }
 {
     let read = flat_decode::read_frame(frame, channels, numbers, octets, counts, qualities);
-    answer(read, place)
+    calls::answer(read, place)
 }
 
 // A frame, the ordinary way, if the data set fits it: in every ASDU the length after 87 is 8 times the
@@ -151,7 +74,7 @@ pub extern "C" fn hopsickle_read_checked(
         (now (numbers .entry)) (now (numbers .exit)) (now (octets .entry)) (now (octets .exit)) (now (counts .entry)) (now (counts .exit)) (now (qualities .entry)) (now (qualities .exit)) r (now (place .exit)) ⌝ }
 {
     let read = flat_checked::read_checked(frame, channels, numbers, octets, counts, qualities);
-    answer(read, place)
+    calls::answer(read, place)
 }
 
 // A PDU from a place on; the header's numbers and octets are zero.
@@ -170,7 +93,7 @@ pub extern "C" fn hopsickle_decode(
         (now (numbers .entry)) (now (numbers .exit)) (now (octets .entry)) (now (octets .exit)) (now (counts .entry)) (now (counts .exit)) (now (qualities .entry)) (now (qualities .exit)) r (now (place .exit)) ⌝ }
 {
     let read = flat_decode::decode_smv(frame, at, channels, numbers, octets, counts, qualities);
-    answer(read, place)
+    calls::answer(read, place)
 }
 
 // A frame, if it is what the writer writes of what was read.
@@ -189,7 +112,7 @@ pub extern "C" fn hopsickle_read_strict(
         (now (numbers .entry)) (now (numbers .exit)) (now (octets .entry)) (now (octets .exit)) (now (counts .entry)) (now (counts .exit)) (now (qualities .entry)) (now (qualities .exit)) r (now (place .exit)) ⌝ }
 {
     let read = flat_strict::read_strict(frame, channels, fixed, numbers, octets, counts, qualities);
-    answer(read, place)
+    calls::answer(read, place)
 }
 
 // A frame, the ordinary way, for a customer: the counts and quality words of the channels that the
@@ -217,7 +140,7 @@ pub extern "C" fn hopsickle_read_granted(
         counts,
         qualities,
     );
-    answer(read, place)
+    calls::answer(read, place)
 }
 
 // Adds a data set to those of a store: one scale factor for each channel. Writes how many sets the
@@ -232,22 +155,7 @@ pub extern "C" fn hopsickle_sets_add(
 ) -> usize
     ensures { λ r. ⌜ Adds «conf_rev» (dataSetOf (now (scales .entry))) (now (sets .entry)) (now (sets .exit)) (now («set_scales» .entry)) (now («set_scales» .exit)) r (now (held .exit)) ⌝ }
 {
-    if SavDataSetConfig::MAX_CHANNELS < scales.len() {
-        *held = 0;
-        return Refusal::TOO_MANY_CHANNELS;
-    }
-    let set = flat_encode::data_set(scales);
-    let added = set_store::add_to(sets, set_scales, conf_rev, set);
-    match added {
-        Addition::Refused(r) => {
-            *held = r.place;
-            r.number
-        }
-        Addition::Taken(m) => {
-            *held = m;
-            0
-        }
-    }
+    calls::sets_add(sets, set_scales, conf_rev, scales, held)
 }
 
 // A frame, the ordinary way, with the data set of its first ASDU's confRev, whose channels and scale
@@ -279,7 +187,7 @@ pub extern "C" fn hopsickle_read_by_sets(
         counts,
         qualities,
     );
-    answer(read, place)
+    calls::answer(read, place)
 }
 
 // Writes the frame of a description with these counts and quality words.
@@ -298,7 +206,7 @@ pub extern "C" fn hopsickle_write(
         (frameOctets fixed (flatDescription channels (now (numbers .entry)) (now (octets .entry)) (now (counts .entry)) (now (qualities .entry)))) (now (frame .entry)) (now (frame .exit)) r (now (size .exit)) ⌝ }
 {
     let w = flat_encode::encode_smv(numbers, octets, channels, fixed, counts, qualities, frame);
-    written(w, size)
+    calls::written(w, size)
 }
 
 // Writes the frame of a description whose counts are those of the values: one scale factor for
@@ -318,7 +226,7 @@ pub extern "C" fn hopsickle_write_values(
         (frameOctets fixed (flatDescribedBy (now (numbers .entry)) (now (octets .entry)) (now (scales .entry)) (now (values .entry)) (now (qualities .entry)))) (now (frame .entry)) (now (frame .exit)) r (now (size .exit)) ⌝ }
 {
     let w = flat_encode::encode_values(numbers, octets, scales, fixed, values, qualities, frame);
-    written(w, size)
+    calls::written(w, size)
 }
 
 // How many octets the frame of a description is written in.
@@ -334,7 +242,7 @@ pub extern "C" fn hopsickle_size(
         × (now (size .exit) ≡ besideIt (λ n. n) (flatSize fixed channels (now (numbers .entry)) (now (octets .entry)))) ⌝ }
 {
     let w = flat_encode::smv_size(numbers, octets, channels, fixed);
-    written(w, size)
+    calls::written(w, size)
 }
 
 // The values of the counts of no_asdu ASDUs: one scale factor for each channel.
@@ -349,20 +257,5 @@ pub extern "C" fn hopsickle_values(
     ensures { λ r. ⌜ Writes (valuesAnswer (length (now (scales .entry))) «no_asdu» (length (now (counts .entry))) (length (now (values .entry))))
         (valuesOf (length (now (scales .entry))) (now (scales .entry)) (now (counts .entry)) («no_asdu» * length (now (scales .entry)))) (now (values .entry)) (now (values .exit)) r (now (size .exit)) ⌝ }
 {
-    if SavDataSetConfig::MAX_CHANNELS < scales.len() {
-        *size = 0;
-        return Refusal::TOO_MANY_CHANNELS;
-    }
-    let config = flat_encode::data_set(scales);
-    let v = scaling::values_of(config, no_asdu, counts, values);
-    match v {
-        Valued::Refused(r) => {
-            *size = r.place;
-            r.number
-        }
-        Valued::Values(m) => {
-            *size = m;
-            0
-        }
-    }
+    calls::values(scales, no_asdu, counts, values, size)
 }

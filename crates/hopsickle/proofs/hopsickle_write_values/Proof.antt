@@ -1,5 +1,5 @@
 -- `hopsickle::hopsickle_write_values` meets its contract: the answer of the writer, as two numbers. Assumes nothing.
-use Rattle.hopsickle.specs.Crosses as crosses
+use Rattle.calls.specs.Crosses as crosses
 use borrow.Author.Needs.{needs}
 use Rattle.hopsickle.proofs.hopsickle_write_values.Statement.{statement}
 use Rattle.hopsickle.proofs.hopsickle_write_values.Tie as tie

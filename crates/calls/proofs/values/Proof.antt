@@ -1,11 +1,11 @@
--- `hopsickle::hopsickle_values` meets its contract: 8 where there are too many scale factors, else the answer of `values_of` of their
+-- `calls::values` meets its contract: 8 where there are too many scale factors, else the answer of `values_of` of their
 -- data set. Assumes nothing.
 use mathlib.Core.Path.{ap}
 use Rattle.rt_services.specs.Told.{toldValues}
-use Rattle.hopsickle.specs.Crosses as crosses
+use Rattle.calls.specs.Crosses as crosses
 use borrow.Author.Needs.{needs}
-use Rattle.hopsickle.proofs.hopsickle_values.Statement.{statement}
-use Rattle.hopsickle.proofs.hopsickle_values.Tie as tie
+use Rattle.calls.proofs.values.Statement.{statement}
+use Rattle.calls.proofs.values.Tie as tie
 
 returns : tie.Need-returns
 returns c =
@@ -40,8 +40,8 @@ returns-3 c =
     let a = c .before .before .before .before .before .before .before .before .before .before .before .args in
     crosses.values-are (a .scales .now) (a .no-asdu) (a .counts .now) (a .values .now) _ (c .before .before .before .before .before .before .before .data-set .ensures) (c .before .before .before .before .before .values-of .result) (c .before .before .before .before .before .values-of .ensures .0) (c .before .before .before .before .before .values-of .ensures .1) (ap toldValues (c .before .v2 .given .1))
 
-pub hopsickle-values-spec : {M : Type 1} → statement M
-hopsickle-values-spec =
+pub values-spec : {M : Type 1} → statement M
+values-spec =
     tie.close
     (tie.spec
     returns

@@ -1,8 +1,8 @@
--- `hopsickle::hopsickle_sets_add` meets its contract: 8, then the answer of the store, as two numbers. Assumes nothing.
-use Rattle.hopsickle.specs.Crosses as crosses
+-- `calls::sets_add` meets its contract: 8, then the answer of the store, as two numbers. Assumes nothing.
+use Rattle.calls.specs.Crosses as crosses
 use borrow.Author.Needs.{needs}
-use Rattle.hopsickle.proofs.hopsickle_sets_add.Statement.{statement}
-use Rattle.hopsickle.proofs.hopsickle_sets_add.Tie as tie
+use Rattle.calls.proofs.sets_add.Statement.{statement}
+use Rattle.calls.proofs.sets_add.Tie as tie
 
 returns : tie.Need-returns
 returns c =
@@ -31,8 +31,8 @@ returns-3 c =
     let a = c .before .before .before .before .before .before .before .before .before .args in
     crosses.adds-taken (a .sets .now) (a .set-scales .now) (a .conf-rev) (a .scales .now) (c .before .before .before .before .before .before .data-set .ensures) (c .before .before .before .add-to .ensures) (c .before .added2 .given .1)
 
-pub hopsickle-sets-add-spec : {M : Type 1} → statement M
-hopsickle-sets-add-spec =
+pub sets-add-spec : {M : Type 1} → statement M
+sets-add-spec =
     tie.close
     (tie.spec
     returns

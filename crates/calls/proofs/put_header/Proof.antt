@@ -1,4 +1,4 @@
--- `hopsickle::put_header` meets its contract: the first six of a head's numbers, and two addresses of six octets. Assumes
+-- `calls::put_header` meets its contract: the first six of a head's numbers, and two addresses of six octets. Assumes
 -- nothing.
 use mathlib.Core.Path.{_≡_, refl, ap, _∙_}
 use mathlib.Core.List.{List}
@@ -8,10 +8,10 @@ use lib.ListN.{length, take, replicate}
 use Rattle.definition.specs.Answers.{over}
 use Rattle.definition.specs.Flat.{headerNumbers, maxNumbers}
 use Rattle.ber_encode.specs.Put.{length-put}
-use Rattle.hopsickle.specs.Crosses.{header-numbers, header-octets}
+use Rattle.calls.specs.Crosses.{header-numbers, header-octets}
 use borrow.Author.Needs.{needs}
-use Rattle.hopsickle.proofs.put_header.Statement.{statement}
-use Rattle.hopsickle.proofs.put_header.Tie as tie
+use Rattle.calls.proofs.put_header.Statement.{statement}
+use Rattle.calls.proofs.put_header.Tie as tie
 
 dst-long : (c : tie.Start) → length (c .args .header .«dst_addr») ≡ 6
 dst-long c = search needs

@@ -1,13 +1,13 @@
--- `hopsickle::hopsickle_header` meets its contract: each way out is one of the laws of specs/Crosses. Assumes nothing.
+-- `calls::header` meets its contract: each way out is one of the laws of specs/Crosses. Assumes nothing.
 use mathlib.Core.Path.{ap, _∙_}
 use Rattle.rt_services.specs.Laws.{header-held}
 use Rattle.rt_services.specs.Describe.{headerOf}
 use Rattle.decode_smv.specs.Frame.{headed}
 use Rattle.decode_smv.specs.Frame.{no-header}
-use Rattle.hopsickle.specs.Crosses as crosses
+use Rattle.calls.specs.Crosses as crosses
 use borrow.Author.Needs.{needs}
-use Rattle.hopsickle.proofs.hopsickle_header.Statement.{statement}
-use Rattle.hopsickle.proofs.hopsickle_header.Tie as tie
+use Rattle.calls.proofs.header.Statement.{statement}
+use Rattle.calls.proofs.header.Tie as tie
 
 decode-ethernet-header-requires : tie.Need-decode-ethernet-header-requires
 decode-ethernet-header-requires c κs = search needs
@@ -51,8 +51,8 @@ returns-4 c =
     let e = ap headerOf (h .header) ∙ header-held (h .value) in
     crosses.header-read _ _ _ _ _ (h .value) _ (h .is) (c .before .before .before .before .before .before .before .before .before .if1 .left) (c .before .before .before .before .before .before .before .before .if2 .left) (rw e at (c .before .before .before .before .put-header .ensures .0)) (rw e at (c .before .before .before .before .put-header .ensures .1))
 
-pub hopsickle-header-spec : {M : Type 1} → statement M
-hopsickle-header-spec =
+pub header-spec : {M : Type 1} → statement M
+header-spec =
     tie.close
     (tie.spec
     decode-ethernet-header-requires
