@@ -47,7 +47,11 @@ pub fn has16(theirs: &[u8], at: usize, v: u16) -> usize {
 }
 
 pub fn has32(theirs: &[u8], at: usize, v: u32) -> usize {
-    has16(theirs, has16(theirs, at, (v / 65536) as u16), (v % 65536) as u16)
+    has16(
+        theirs,
+        has16(theirs, at, (v / 65536) as u16),
+        (v % 65536) as u16,
+    )
 }
 
 pub fn has64(theirs: &[u8], at: usize, v: usize) -> usize {

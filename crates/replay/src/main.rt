@@ -153,7 +153,11 @@ fn print_count(kind: u8, class: usize, n: usize) {
 fn print_counts(numbers: &[usize]) {
     let mut i: usize = 0;
     while i < LINES {
-        print_count((i / class::CLASSES % 256) as u8, i % class::CLASSES, get(numbers, i));
+        print_count(
+            (i / class::CLASSES % 256) as u8,
+            i % class::CLASSES,
+            get(numbers, i),
+        );
         i += 1;
     }
 }

@@ -273,12 +273,13 @@ fn strict(s: &[u8], channels: usize, fixed: bool) -> Refusal {
     }
 }
 
-// What strict reading makes of octets, held to ordinary reading and to the writer.
+// What strict reading in a form makes of octets, held to ordinary reading and to the writer: refused or accepted as it has to
+// be, or not.
 const REFUSED: usize = 0;
 
 const ACCEPTED: usize = 1;
 
-const WRONGLY: usize = 4;
+const OTHERWISE: usize = 4;
 
 // Strict reading in a form: it refuses what ordinary reading refuses, and accepts exactly what the
 // writer writes again of what was read.
@@ -295,7 +296,7 @@ fn strict_in(
         if strict.number == r.number && strict.place == r.place {
             return REFUSED;
         }
-        return WRONGLY;
+        return OTHERWISE;
     }
     let again = written_again(s, channels, fixed, r, counts, qualities);
     if strict.number == 6 && !again {
@@ -304,10 +305,11 @@ fn strict_in(
     if strict.number == 0 && again {
         return ACCEPTED;
     }
-    WRONGLY
+    OTHERWISE
 }
 
-// The class, with strict reading in both forms.
+// The class, with strict reading in both forms: their sum, the fixed form's counted twice, is below 4 where each is as it has
+// to be.
 fn by_strict(
     found: usize,
     s: &[u8],
@@ -337,10 +339,7 @@ pub fn frame(request: &[u8], theirs: &[u8]) -> usize {
     let header = r.header;
     let at = has_header(theirs, has(theirs, 0, 0), header);
     let ours = ours_of(theirs, at, r, scales, &counts, &qualities);
-    let found = by_text(
-        reading_class::class_of_frame(s, channels, theirs, ours),
-        r,
-    );
+    let found = by_text(reading_class::class_of_frame(s, channels, theirs, ours), r);
     by_strict(found, s, channels, r, &counts, &qualities)
 }
 

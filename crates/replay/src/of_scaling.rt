@@ -29,7 +29,10 @@ pub fn value(request: &[u8], theirs: &[u8]) -> usize {
     let count = signed_of(number32(request, 0));
     let scale = float_of(number32(request, 4));
     let value = bits_of(scaling::value_of(count, scale));
-    class::alike(accepted(theirs, has32(theirs, has(theirs, 0, 0), value)), theirs)
+    class::alike(
+        accepted(theirs, has32(theirs, has(theirs, 0, 0), value)),
+        theirs,
+    )
 }
 
 // The scale factors of four channels.

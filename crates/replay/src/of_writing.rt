@@ -34,7 +34,10 @@ fn ours_of(theirs: &[u8], written: Written, out_of_range: bool, frame: &[u8]) ->
             if out_of_range {
                 return refused(11, 0);
             }
-            accepted(theirs, has_octets(theirs, has(theirs, 0, 0), first(frame, n)))
+            accepted(
+                theirs,
+                has_octets(theirs, has(theirs, 0, 0), first(frame, n)),
+            )
         }
     }
 }

@@ -187,10 +187,7 @@ pub fn class_of_frame(s: &[u8], channels: usize, theirs: &[u8], ours: Ours) -> u
 // The class of the answers for a PDU from start on.
 pub fn class_of(s: &[u8], start: usize, channels: usize, theirs: &[u8], ours: Ours) -> usize {
     if SavDataSetConfig::MAX_CHANNELS < channels {
-        return class::explained_if(
-            ours.number == 8 && ours.place == 0,
-            class::MANY_CHANNELS,
-        );
+        return class::explained_if(ours.number == 8 && ours.place == 0, class::MANY_CHANNELS);
     }
     if ours.number == 4 {
         return limit(s, start, theirs, ours.place);

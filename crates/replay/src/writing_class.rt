@@ -152,10 +152,7 @@ fn outside_class(request: &[u8], theirs: &[u8]) -> usize {
 // The class of two answers; wide: a quality word is of 2^13 or more in the request, and was cleared to what Quality holds.
 pub fn class_of(request: &[u8], theirs: &[u8], ours: Ours, wide: bool) -> usize {
     if SavDataSetConfig::MAX_CHANNELS < description::channels(after(request, description::PDU)) {
-        return class::explained_if(
-            ours.number == 8 && ours.place == 0,
-            class::MANY_CHANNELS,
-        );
+        return class::explained_if(ours.number == 8 && ours.place == 0, class::MANY_CHANNELS);
     }
     if ours.number != 0 {
         return refused(request, theirs, ours);
