@@ -1,4 +1,5 @@
 // Frames of generated descriptions.
+use crate::Frame;
 use crate::draw::below;
 use crate::draw::draw;
 use rt_services::EthernetHeader;
@@ -10,18 +11,23 @@ use rt_services::SavPdu;
 use rt_services::Vlan;
 use rt_services::Written;
 
-fn vlan(k: u32) -> Vlan {
-    if below(k, 10, 2) == 0 {
-        return Vlan::Untagged;
+// The first n octets, or all where there are fewer.
+pub fn first(s: &[u8], n: usize) -> &[u8] {
+    if n <= s.len() {
+        return &s[..n];
     }
-    Vlan::Tagged(0x8100, 0x6005)
+    s
 }
 
 fn header(k: u32) -> EthernetHeader {
+    let mut vlan = Vlan::Untagged;
+    if below(k, 10, 2) != 0 {
+        vlan = Vlan::Tagged(0x8100, 0x6005);
+    }
     EthernetHeader {
         dst_addr: [0x01, 0x0c, 0xcd, 0x04, 0x00, 0x01],
         src_addr: [0, 0, 0, 0, 0, 2],
-        vlan: vlan(k),
+        vlan,
         ether_type: 0x88ba,
         appid: 0x4000,
         length: 0,
@@ -62,86 +68,68 @@ fn asdu(k: u32) -> SavAsdu {
     }
 }
 
-fn pdu(k: u32, no_asdu: u16) -> SavPdu {
+// So many ASDUs of so many channels that the writer can write them: 1 to 8.
+fn pdu(k: u32, channels: u32) -> SavPdu {
+    let most = 1200 / (channels % 25 * 8 + 100);
     SavPdu {
         sav_asdu: [asdu(k); SavPdu::MAX_ASDUS],
         security_octets: [0x5e; SavPdu::MAX_SECURITY],
         security_len: below(k, 30, 9) as usize,
-        no_asdu,
+        no_asdu: 1 + (below(k, 3, most % 8 + 1) % 8) as u16,
         sim: below(k, 31, 2) == 1,
         security: presence(k, 32),
     }
 }
 
-// Whether the sample at an element is of a channel that the mask shows.
-fn is_shown(mask: u32, channels: u32, element: u32) -> bool {
+// The number that an element's count and quality word are drawn of: from one stream where the mask
+// shows its channel, else from another.
+fn sample(mask: u32, channels: u32, element: u32, shown: u32, hidden: u32) -> u32 {
     if channels == 0 {
-        return true;
+        return draw(shown, element);
     }
     let channel = element % channels;
-    if 24 <= channel {
-        return false;
+    if channel < 24 {
+        if (mask >> channel) % 2 == 1 {
+            return draw(shown, element);
+        }
     }
-    (mask >> channel) % 2 == 1
+    draw(hidden, element)
 }
 
-// The stream that an element's sample is drawn from: shown samples from one, hidden ones from another.
-fn stream(mask: u32, channels: u32, element: u32, shown: u32, hidden: u32) -> u32 {
-    if is_shown(mask, channels, element) {
-        return shown;
-    }
-    hidden
-}
-
-fn drawn(mask: u32, channels: u32, element: u32, shown: u32, hidden: u32) -> u32 {
-    draw(stream(mask, channels, element, shown, hidden), element)
-}
-
-fn fill_counts(mask: u32, channels: u32, shown: u32, hidden: u32, counts: &mut [i32]) {
-    let mut i = 0;
-    while i < counts.len() {
-        let element = (i % 256) as u32;
-        let count = decode_smv::samples::signed(drawn(mask, channels, element, shown, hidden));
-        counts[i] = count;
-        i += 1;
-    }
-}
-
-fn fill_words(mask: u32, channels: u32, shown: u32, hidden: u32, words: &mut [u32]) {
-    let mut i = 0;
-    while i < words.len() {
-        let element = (i % 256) as u32;
-        let word = drawn(mask, channels, element, shown, hidden) % SavAsdu::QUALITY_LIMIT;
-        words[i] = word;
-        i += 1;
-    }
-}
-
-// The frame of description k, with shown samples of k and hidden ones of another stream: its size, or
-// 0 where the writer refuses it.
-pub fn write(
-    k: u32,
-    no_asdu: u16,
-    channels: u32,
-    mask: u32,
-    hidden: u32,
-    frame: &mut [u8],
-) -> usize {
+// The frame of description k, with shown samples of k and hidden ones of another stream.
+pub fn write(k: u32, channels: u32, mask: u32, hidden: u32) -> Frame {
     let mut counts = [0; SavDataSetConfig::MAX_SAMPLES];
-    fill_counts(mask, channels, k, hidden, &mut counts);
     let mut words = [0; SavDataSetConfig::MAX_SAMPLES];
-    fill_words(mask, channels, k, hidden, &mut words);
+    let mut i = 0;
+    while i < SavDataSetConfig::MAX_SAMPLES {
+        let x = sample(mask, channels, i as u32, k, hidden);
+        let count = decode_smv::samples::signed(x);
+        counts[i] = count;
+        words[i] = x % SavAsdu::QUALITY_LIMIT;
+        i += 1;
+    }
+    let mut octets = [0; SavPdu::MAX_FRAME];
     let written = encode_smv::encode_smv(
         header(k),
-        pdu(k, no_asdu),
+        pdu(k, channels),
         channels as usize,
         below(k, 33, 2) == 1,
         &counts,
         &words,
-        frame,
+        &mut octets,
     );
-    let Written::At(n) = written else {
-        return 0;
-    };
-    n
+    let mut size = 0;
+    if let Written::At(n) = written {
+        size = n;
+    }
+    Frame { octets, size }
+}
+
+// How many of a frame's n octets are read: all, or some.
+pub fn kept(k: u32, n: usize) -> usize {
+    let some = below(k, 5, 1600) as usize;
+    if below(k, 4, 2) == 0 || n < some {
+        return n;
+    }
+    some
 }

@@ -1,293 +1,97 @@
 // One generated frame, whose lengths after 87 may have been changed, and how ordinary and checked
 // reading answer it.
+use crate::Frame;
+use crate::Reading;
+use crate::Walked;
 use crate::draw::below;
 use crate::draw::draw;
 use crate::frames;
-use crate::pair::asdus;
-use crate::pair::first;
-use crate::pair::length;
-use crate::pair::number_of;
-use crate::pair::place_of;
-use crate::pair::same_counts;
-use crate::pair::same_words;
+use crate::frames::first;
+use crate::readings;
 use crate::walk;
-use rt_services::FlatRead;
 use rt_services::Refusal;
 use rt_services::SavDataSetConfig;
 use rt_services::SavPdu;
 
-pub enum Outcome {
-    // Both accept, with the same in the arrays, and every length fits.
-    Accepted,
-    // Checked reading refuses 13 where ordinary reading accepts: in the first ASDU, or in a later one.
-    First,
-    Later,
-    // Both refuse with the same number and place.
-    Refused,
-    // Anything else.
-    Wrong,
-}
+// Places among the counts: of all frames; of those that both accept, with the same in the arrays, where every
+// length fits; that checked reading refuses 13 in the first ASDU, or in a later one, where ordinary
+// reading accepts; that both refuse with one number and place; and of those with any other answer.
+// A refusal leaves the arrays.
+pub const ALL: usize = 5;
 
-// What the walk says of a frame that ordinary reading accepts.
-enum Expected {
-    Accepted,
-    Differs(usize),
-}
+const ACCEPTED: usize = 6;
 
-// The earliest ASDU whose length differs.
-fn earliest(s: &[u8], channels: usize) -> Expected {
-    let count = walk::no_asdu(s);
-    let mut i = 0;
-    while i < count {
-        if !walk::fits(s, channels, i) {
-            return Expected::Differs(i);
-        }
-        i += 1;
-    }
-    Expected::Accepted
-}
+const FIRST: usize = 7;
 
-// The class of an answer that differs in an ASDU.
-fn differs(s: &[u8], channels: usize, asdu: usize, read: FlatRead) -> Outcome {
-    if number_of(read) != Refusal::LENGTHS_DIFFER {
-        return Outcome::Wrong;
-    }
-    if place_of(read) != walk::samples(s, channels, asdu) {
-        return Outcome::Wrong;
-    }
-    if asdu == 0 {
-        return Outcome::First;
-    }
-    Outcome::Later
-}
+const LATER: usize = 8;
 
-// The class of two answers, for the octets s.
-fn class(s: &[u8], channels: usize, ordinary: FlatRead, checked: FlatRead) -> Outcome {
-    if number_of(ordinary) != 0 {
-        if number_of(ordinary) != number_of(checked) {
-            return Outcome::Wrong;
-        }
-        if place_of(ordinary) != place_of(checked) {
-            return Outcome::Wrong;
-        }
-        return Outcome::Refused;
-    }
-    match earliest(s, channels) {
-        Expected::Differs(asdu) => differs(s, channels, asdu, checked),
-        Expected::Accepted => {
-            if number_of(checked) == 0 {
-                return Outcome::Accepted;
+const REFUSED: usize = 9;
+
+const WRONG: usize = 10;
+
+// Where a frame with these answers is counted.
+fn class(ordinary: Reading, checked: Reading, walked: Walked) -> usize {
+    let mut number = ordinary.number;
+    let mut place = ordinary.place;
+    let mut class = REFUSED;
+    if number == 0 {
+        let asdu = walked.misfit;
+        class = ACCEPTED;
+        if asdu < SavPdu::MAX_ASDUS {
+            number = Refusal::LENGTHS_DIFFER;
+            place = walked.places[asdu];
+            class = LATER;
+            if asdu == 0 {
+                class = FIRST;
             }
-            Outcome::Wrong
         }
     }
-}
-
-// Whether the arrays are as they should be: of an accepted reading those of ordinary reading, of a
-// refused one as they were lent.
-fn left(
-    read: FlatRead,
-    numbers: &[u32],
-    octets: &[u8],
-    counts: &[i32],
-    words: &[u32],
-    other_numbers: &[u32],
-    other_octets: &[u8],
-    other_counts: &[i32],
-    other_words: &[u32],
-) -> bool {
-    if number_of(read) != 0 {
-        let lent_numbers = [77; layout::MAX_NUMBERS];
-        let lent_octets = [77; layout::MAX_OCTETS];
-        let lent_counts = [77; SavDataSetConfig::MAX_SAMPLES];
-        let lent_words = [77; SavDataSetConfig::MAX_SAMPLES];
-        return same(
-            numbers,
-            octets,
-            counts,
-            words,
-            &lent_numbers,
-            &lent_octets,
-            &lent_counts,
-            &lent_words,
-        );
+    if checked.number != number || checked.place != place {
+        return WRONG;
     }
-    same(
-        numbers,
-        octets,
-        counts,
-        words,
-        other_numbers,
-        other_octets,
-        other_counts,
-        other_words,
-    )
-}
-
-// Whether the elements of the first four arrays are the first of the other four.
-fn same(
-    numbers: &[u32],
-    octets: &[u8],
-    counts: &[i32],
-    words: &[u32],
-    other_numbers: &[u32],
-    other_octets: &[u8],
-    other_counts: &[i32],
-    other_words: &[u32],
-) -> bool {
-    if !same_words(numbers, other_numbers) {
-        return false;
+    let mut expected = ordinary;
+    if number != 0 {
+        expected = readings::lent();
     }
-    if !check::same(octets, other_octets) {
-        return false;
+    if readings::same_arrays(checked, expected) {
+        return class;
     }
-    if !same_counts(counts, other_counts) {
-        return false;
+    WRONG
+}
+
+// The frame with another octet before a place, where there is one.
+fn change(frame: Frame, place: usize, octet: u8) -> Frame {
+    let mut f = frame;
+    if 0 < place {
+        let at = place - 1;
+        if at < SavPdu::MAX_FRAME {
+            f.octets[at] = octet;
+        }
     }
-    same_words(words, other_words)
+    f
 }
 
-// How both readings answer, each into four of these arrays.
-fn compare(
-    s: &[u8],
-    channels: usize,
-    numbers: &mut [u32],
-    octets: &mut [u8],
-    counts: &mut [i32],
-    words: &mut [u32],
-    own_numbers: &mut [u32],
-    own_octets: &mut [u8],
-    own_counts: &mut [i32],
-    own_words: &mut [u32],
-) -> Outcome {
-    let ordinary = flat_decode::read_frame(s, channels, numbers, octets, counts, words);
-    let checked = flat_checked::read_checked(
-        s,
-        channels,
-        own_numbers,
-        own_octets,
-        own_counts,
-        own_words,
-    );
-    if left(
-        checked,
-        own_numbers,
-        own_octets,
-        own_counts,
-        own_words,
-        numbers,
-        octets,
-        counts,
-        words,
-    ) {
-        return class(s, channels, ordinary, checked);
-    }
-    Outcome::Wrong
-}
-
-// With arrays that are long enough for any frame.
-fn compare_long(s: &[u8], channels: usize) -> Outcome {
-    let mut counts = [77; SavDataSetConfig::MAX_SAMPLES];
-    let mut words = [77; SavDataSetConfig::MAX_SAMPLES];
-    let mut own_counts = [77; SavDataSetConfig::MAX_SAMPLES];
-    let mut own_words = [77; SavDataSetConfig::MAX_SAMPLES];
-    with_samples(
-        s,
-        channels,
-        &mut counts,
-        &mut words,
-        &mut own_counts,
-        &mut own_words,
-    )
-}
-
-// With arrays for the samples of two ASDUs of eight channels.
-fn compare_short(s: &[u8], channels: usize) -> Outcome {
-    let mut counts = [77; 16];
-    let mut words = [77; 16];
-    let mut own_counts = [77; 16];
-    let mut own_words = [77; 16];
-    with_samples(
-        s,
-        channels,
-        &mut counts,
-        &mut words,
-        &mut own_counts,
-        &mut own_words,
-    )
-}
-
-// With these arrays for the samples.
-fn with_samples(
-    s: &[u8],
-    channels: usize,
-    counts: &mut [i32],
-    words: &mut [u32],
-    own_counts: &mut [i32],
-    own_words: &mut [u32],
-) -> Outcome {
-    let mut numbers = [77; layout::MAX_NUMBERS];
-    let mut octets = [77; layout::MAX_OCTETS];
-    let mut own_numbers = [77; layout::MAX_NUMBERS];
-    let mut own_octets = [77; layout::MAX_OCTETS];
-    compare(
-        s,
-        channels,
-        &mut numbers,
-        &mut octets,
-        counts,
-        words,
-        &mut own_numbers,
-        &mut own_octets,
-        own_counts,
-        own_words,
-    )
-}
-
-fn put(frame: &mut [u8], at: usize, octet: u8) {
-    if at < frame.len() {
-        frame[at] = octet;
-    }
-}
-
-// The place of the last length octet before the samples of an ASDU, of a frame of n octets.
-fn last_length_octet(frame: &[u8], n: usize, channels: usize, asdu: usize) -> usize {
-    let place = walk::samples(first(frame, n), channels, asdu);
-    if place == 0 {
-        return 0;
-    }
-    place - 1
-}
-
-// A place past every frame.
-const NOWHERE: usize = 1600;
-
-// Where frame k has another octet: in any place, or in the length before the samples of one of the
-// first four ASDUs, or nowhere.
-fn changed(k: u32, frame: &[u8], n: usize, channels: usize) -> usize {
+// Frame k: with another octet in any place, or as the last octet of the length before the samples of
+// one of the first four ASDUs, or nowhere; in half of those with another length, in the length before
+// the first samples besides.
+fn changed(k: u32, channels: u32) -> Frame {
+    let frame = frames::write(k, channels, 0xffffff, 0);
+    let walked = walk::walk(first(&frame.octets, frame.size), channels as usize);
+    let places = walked.places;
+    let octet = (draw(k, 42) / 65536 % 256) as u8;
     let kind = below(k, 40, 6);
-    if kind == 0 {
-        return below(k, 43, 1600) as usize;
+    let mut place = below(k, 43, 1600) as usize % 1600 + 1;
+    let mut besides = 0;
+    if kind != 0 {
+        place = places[(below(k, 41, 4) % 4) as usize];
     }
-    if kind < 3 {
-        return last_length_octet(frame, n, channels, below(k, 41, 4) as usize);
+    if kind == 2 {
+        besides = places[0];
     }
-    NOWHERE
-}
-
-// Where it has another octet besides, in half of those with another length: in the length before the
-// first samples.
-fn changed_besides(k: u32, frame: &[u8], n: usize, channels: usize) -> usize {
-    if below(k, 40, 6) == 2 {
-        return last_length_octet(frame, n, channels, 0);
+    if 2 < kind {
+        place = 0;
     }
-    NOWHERE
-}
-
-// Puts one octet in two places.
-fn change(frame: &mut [u8], at: usize, besides: usize, octet: u8) {
-    put(frame, besides, octet / 2);
-    put(frame, at, octet);
+    change(change(frame, besides, octet / 2), place, octet)
 }
 
 // The number of channels that is asked for: that of the frame, or another.
@@ -298,17 +102,22 @@ fn asked(k: u32, channels: u32) -> usize {
     channels as usize
 }
 
-// Frame k.
-pub fn answer(k: u32) -> Outcome {
-    let channels = below(k, 1, 25);
-    let mut frame = [0; SavPdu::MAX_FRAME];
-    let n = frames::write(k, asdus(k, channels), channels, 0xffffff, 0, &mut frame);
-    let at = changed(k, &frame, n, channels as usize);
-    let besides = changed_besides(k, &frame, n, channels as usize);
-    change(&mut frame, at, besides, (draw(k, 42) / 65536 % 256) as u8);
-    let s = first(first(&frame, n), length(k, n));
+// How many counts and quality words there is room for: those of two ASDUs of eight channels, or of
+// any frame.
+fn room(k: u32) -> usize {
     if below(k, 46, 8) == 0 {
-        return compare_short(s, asked(k, channels));
+        return 16;
     }
-    compare_long(s, asked(k, channels))
+    SavDataSetConfig::MAX_SAMPLES
+}
+
+// Where frame k is counted.
+pub fn answer(k: u32) -> usize {
+    let channels = below(k, 1, 25);
+    let frame = changed(k, channels);
+    let s = first(&frame.octets, frames::kept(k, frame.size));
+    let asked = asked(k, channels);
+    let ordinary = readings::ordinary(s, asked, room(k));
+    let checked = readings::checked(s, asked, room(k));
+    class(ordinary, checked, walk::walk(s, asked))
 }

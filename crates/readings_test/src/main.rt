@@ -9,78 +9,78 @@ mod draw;
 mod frames;
 mod lengths;
 mod pair;
+mod readings;
 mod walk;
 
-use crate::lengths::Outcome;
-use crate::pair::Compared;
 use libc::STDOUT_FILENO;
+use rt_services::SavDataSetConfig;
+use rt_services::SavPdu;
+
+// The octets of a frame, and how many they are: none where the writer refuses it.
+pub struct Frame {
+    pub octets: [u8; SavPdu::MAX_FRAME],
+    pub size: usize,
+}
+
+// Number and place of a refusal, 0 and 0 where there is none; and what is in the arrays.
+pub struct Reading {
+    pub number: usize,
+    pub place: usize,
+    pub numbers: [u32; layout::MAX_NUMBERS],
+    pub octets: [u8; layout::MAX_OCTETS],
+    pub counts: [i32; SavDataSetConfig::MAX_SAMPLES],
+    pub words: [u32; SavDataSetConfig::MAX_SAMPLES],
+}
+
+// The places of the samples of eight ASDUs, whether or not the frame has so many; and the first of
+// the frame's ASDUs with another length before them than 8 times the channels, or 8.
+pub struct Walked {
+    pub places: [usize; SavPdu::MAX_ASDUS],
+    pub misfit: usize,
+}
 
 const PAIRS: u32 = 150000;
 
 const FRAMES: u32 = 250000;
 
-fn print_line(name: &[u8], n: u32) {
-    io::write_all(STDOUT_FILENO, name);
-    io::print_decimal(STDOUT_FILENO, n as u64);
-    io::write_all(STDOUT_FILENO, b"\n");
-}
+const REPORT_LENGTH: usize = 321;
 
-// One more, at most the largest number.
-fn more(n: u32) -> u32 {
-    if n < 4294967295 {
-        return n + 1;
-    }
-    n
-}
+// The lines, each with a count in place of #.
+const REPORT: [u8; REPORT_LENGTH] =
+    *b"pairs of frames: #\nthat do not differ: #\nthat differ, both accepted alike: #\nthat differ, both refused alike: #\nthat differ, answered differently: #\nframes, checked: #\naccepted as by ordinary reading: #\nrefused 13 in the first ASDU: #\nrefused 13 in a later ASDU: #\nrefused as by ordinary reading: #\nanswered otherwise: #\n";
 
-fn print_pairs() {
-    let mut accepted = 0;
-    let mut refused = 0;
-    let mut same = 0;
-    let mut differ = 0;
-    let mut k = 0;
-    while k < PAIRS {
-        match pair::answer(k) {
-            Compared::Accepted => accepted = more(accepted),
-            Compared::Refused => refused = more(refused),
-            Compared::Same => same = more(same),
-            Compared::Differ => differ = more(differ),
+const LINES: usize = 11;
+
+fn print(counts: [u32; LINES]) {
+    let text = REPORT;
+    let mut line = 0;
+    let mut i = 0;
+    while i < REPORT_LENGTH {
+        if text[i] == b'#' {
+            if line < LINES {
+                io::print_decimal(STDOUT_FILENO, counts[line] as u64);
+                line += 1;
+            }
+        } else {
+            io::write_all(STDOUT_FILENO, &text[i..i + 1]);
         }
-        k += 1;
+        i += 1;
     }
-    print_line(b"pairs of frames: ", PAIRS);
-    print_line(b"that do not differ: ", same);
-    print_line(b"that differ, both accepted alike: ", accepted);
-    print_line(b"that differ, both refused alike: ", refused);
-    print_line(b"that differ, answered differently: ", differ);
-}
-
-fn print_checked() {
-    let mut accepted = 0;
-    let mut first = 0;
-    let mut later = 0;
-    let mut refused = 0;
-    let mut wrong = 0;
-    let mut k = 0;
-    while k < FRAMES {
-        match lengths::answer(k) {
-            Outcome::Accepted => accepted = more(accepted),
-            Outcome::First => first = more(first),
-            Outcome::Later => later = more(later),
-            Outcome::Refused => refused = more(refused),
-            Outcome::Wrong => wrong = more(wrong),
-        }
-        k += 1;
-    }
-    print_line(b"frames, checked: ", FRAMES);
-    print_line(b"accepted as by ordinary reading: ", accepted);
-    print_line(b"refused 13 in the first ASDU: ", first);
-    print_line(b"refused 13 in a later ASDU: ", later);
-    print_line(b"refused as by ordinary reading: ", refused);
-    print_line(b"answered otherwise: ", wrong);
 }
 
 fn main() {
-    print_pairs();
-    print_checked();
+    let mut counts = [0; LINES];
+    counts[pair::ALL] = PAIRS;
+    counts[lengths::ALL] = FRAMES;
+    let mut k = 0;
+    while k < FRAMES {
+        if k < PAIRS {
+            let pair = pair::answer(k) % LINES;
+            counts[pair] = std::num::wrapping_add_u32(counts[pair], 1);
+        }
+        let frame = lengths::answer(k) % LINES;
+        counts[frame] = std::num::wrapping_add_u32(counts[frame], 1);
+        k += 1;
+    }
+    print(counts);
 }

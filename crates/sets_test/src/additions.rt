@@ -1,45 +1,36 @@
-// One addition, to a store in a record and to one in two arrays.
-use crate::expected;
+// One addition, to a store in a record and to one in two arrays; and the search for a row's set.
+use crate::Search;
+use crate::Step;
 use crate::history;
-use crate::tally;
-use rt_services::Refusal;
+use rt_services::SavDataSetConfig;
 use set_store::Addition;
 use set_store::DataSets;
 
 // The number of the refusal, or 0.
-fn number_of(answer: Addition) -> usize {
-    match answer {
+fn number_of(outcome: Addition) -> usize {
+    match outcome {
         Addition::Refused(r) => r.number,
         Addition::Taken(_) => 0,
     }
 }
 
-// Whether addition k is answered as expected: the refusal with place 0, or how many sets are held.
-fn is_right(k: usize, answer: Addition) -> bool {
-    match answer {
-        Addition::Refused(r) => r.number == history::refusal_of(k) && r.place == 0,
-        Addition::Taken(n) => history::refusal_of(k) == 0 && n == history::held_after(k),
+// Whether an answer is a refusal of this number with place 0; where it is 0, that so many are held.
+fn is_right(outcome: Addition, number: usize, held: usize) -> bool {
+    match outcome {
+        Addition::Refused(r) => r.number == number && r.place == 0,
+        Addition::Taken(n) => number == 0 && n == held,
     }
 }
 
-fn place_of(number: usize) -> usize {
-    if number == 0 {
-        return tally::TAKEN;
-    }
-    if number == Refusal::TOO_MANY_CHANNELS {
-        return tally::TOO_MANY_CHANNELS;
-    }
-    if number == Refusal::SET_NOT_ADDED {
-        return tally::NOT_ADDED;
-    }
-    tally::ADDED_OTHERWISE
-}
-
-// Whether two arrays have the same scale factors.
-fn same_factors(a: &[f32; DataSets::SCALES], b: &[f32; DataSets::SCALES]) -> bool {
+// Whether two stores have the same numbers and scale factors: there are more of these.
+fn same_store(a: DataSets, b: DataSets) -> bool {
     let mut i = 0;
     while i < DataSets::SCALES {
-        if a[i] != b[i] {
+        let number = i % DataSets::NUMBERS;
+        if a.numbers[number] != b.numbers[number] {
+            return false;
+        }
+        if a.scales[i] != b.scales[i] {
             return false;
         }
         i += 1;
@@ -47,51 +38,64 @@ fn same_factors(a: &[f32; DataSets::SCALES], b: &[f32; DataSets::SCALES]) -> boo
     true
 }
 
-// Whether the store in a record is that in two arrays.
-fn same_store(
+// Whether a set is added to a store in two arrays as expected: answered so, and the store left so.
+fn is_added(
     store: DataSets,
-    numbers: &[u32; DataSets::NUMBERS],
-    scales: &[f32; DataSets::SCALES],
+    conf_rev: u32,
+    set: SavDataSetConfig,
+    number: usize,
+    held: usize,
+    after: DataSets,
 ) -> bool {
-    let own_numbers = store.numbers;
-    let own_scales = store.scales;
-    expected::are_words(true, &own_numbers, numbers) && same_factors(&own_scales, scales)
+    let mut numbers = store.numbers;
+    let mut scales = store.scales;
+    let outcome = set_store::add_to(&mut numbers, &mut scales, conf_rev, set);
+    is_right(outcome, number, held) && same_store(DataSets { numbers, scales }, after)
 }
 
-// Addition k, and the store in a record after it.
-pub fn add(
-    k: usize,
-    store: DataSets,
-    numbers: &mut [u32; DataSets::NUMBERS],
-    scales: &mut [f32; DataSets::SCALES],
-    counts: &mut [u32],
-) -> DataSets {
-    let set = history::set(k);
-    let added = set_store::add(store, history::revision(k), set);
-    let answer = added.outcome;
+// Addition k, to a store that holds so many sets.
+pub fn add(k: usize, store: DataSets, held: usize) -> Step {
+    let row = history::row_of(k, held);
+    let conf_rev = history::revision_of(row);
+    let set = history::set(k, row);
+    let refusal = history::refusal_of(k);
+    let mut count = held % 64;
+    if refusal == 0 {
+        count = count + 1;
+    }
+    let added = set_store::add(store, conf_rev, set);
+    let outcome = added.outcome;
     let after = added.store;
-    let flat = set_store::add_to(numbers, scales, history::revision(k), set);
-    tally::count(counts, place_of(number_of(answer)));
-    let right = is_right(k, answer) && is_right(k, flat) && same_store(after, numbers, scales);
-    tally::count_if(counts, tally::ADDED_OTHERWISE, !right);
-    after
+    Step {
+        store: after,
+        held: count,
+        number: number_of(outcome),
+        right: is_right(outcome, refusal, count)
+            && is_added(store, conf_rev, set, refusal, count, after),
+    }
 }
 
-// Looks for a row's set where so many rows are held.
-fn find(row: usize, held: usize, store: DataSets, counts: &mut [u32]) {
+// Whether two sets have the same channels and scale factors.
+fn same_set(a: SavDataSetConfig, b: SavDataSetConfig) -> bool {
+    if a.channels != b.channels {
+        return false;
+    }
+    let mut i = 0;
+    while i < SavDataSetConfig::MAX_CHANNELS {
+        if a.scale_factor[i] != b.scale_factor[i] {
+            return false;
+        }
+        i += 1;
+    }
+    true
+}
+
+// Looks for a row's set in a store that holds so many rows.
+pub fn find(row: usize, store: DataSets, held: usize) -> Search {
     let found = set_store::find_set(store, history::revision_of(row));
     let set = found.set;
-    let right = found.is == (row < held)
-        && (!found.is || expected::same_set(set, history::set_of(row)));
-    tally::count_if(counts, tally::FOUND, found.is);
-    tally::count_if(counts, tally::FOUND_OTHERWISE, !right);
-}
-
-// Looks for every row's set.
-pub fn find_all(held: usize, store: DataSets, counts: &mut [u32]) {
-    let mut row = 0;
-    while row < history::ROWS {
-        find(row, held, store, counts);
-        row += 1;
+    Search {
+        found: found.is,
+        right: found.is == (row < held) && (!found.is || same_set(set, history::set_of(row))),
     }
 }

@@ -1,11 +1,8 @@
-// The frames: thirteen for each row, of the row's confRev and channels.
+// The frames: thirteen kinds for each row, of the row's confRev and channels.
+use crate::Frame;
 use crate::draw::below;
 use crate::draw::draw;
 use crate::history;
-use crate::octets::minus;
-use crate::octets::octet;
-use crate::octets::plus;
-use crate::octets::put;
 use rt_services::EthernetHeader;
 use rt_services::OptionalU16;
 use rt_services::Presence;
@@ -15,28 +12,19 @@ use rt_services::SavPdu;
 use rt_services::Vlan;
 use rt_services::Written;
 
-const KINDS: usize = 13;
+pub const KINDS: usize = 13;
 
 pub const FRAMES: usize = history::ROWS * KINDS;
 
-// The kinds. Of one confRev: one ASDU (kind 0), two, and three read into short arrays.
-const TWO: usize = 1;
+// The kinds. Of one confRev: one ASDU (kind 0), two (1), and three read into short arrays (2).
+// Of two confRevs: three ASDUs of which the second (3) or the third (4) has the other one; two ASDUs
+// without the last octet (5); and two read into short arrays (6).
+// Cut: two ASDUs without the last octet (7); one that ends after the confRev (8); one that ends before
+// the confRev's last octet (9); and one that ends anywhere before that (10).
+// Changed: a length octet 80 after 60 (11), and noASDU 0 (12).
+pub const THREE_SHORT: usize = 2;
 
-const THREE_SHORT: usize = 2;
-
-// Of two confRevs: three ASDUs of which the second or the third has the other one; two ASDUs without
-// the last octet; and two read into short arrays.
-const SECOND_DIFFERS: usize = 3;
-
-const THIRD_DIFFERS: usize = 4;
-
-const DIFFERS_CUT: usize = 5;
-
-const DIFFERS_SHORT: usize = 6;
-
-// Cut: two ASDUs without the last octet; one that ends after the confRev; one that ends before the
-// confRev's last octet; and one that ends anywhere before that.
-const TWO_CUT: usize = 7;
+pub const DIFFERS_SHORT: usize = 6;
 
 const AFTER_REVISION: usize = 8;
 
@@ -44,267 +32,177 @@ const IN_REVISION: usize = 9;
 
 const BEFORE_REVISION: usize = 10;
 
-// Changed: a length octet 80 after 60, and noASDU 0.
 const BAD_LENGTH: usize = 11;
 
 const NO_ASDU: usize = 12;
 
-pub fn row(f: usize) -> usize {
-    f / KINDS
-}
+// By kind: how many ASDUs, which of them has the other confRev (0: none), and how many octets are cut
+// off the end, besides what follows the confRev in kinds 8 and 9.
+const ASDUS: [u16; KINDS] = [1, 2, 3, 3, 3, 2, 2, 2, 1, 1, 1, 1, 1];
 
-fn kind(f: usize) -> usize {
-    f % KINDS
-}
+const OTHER: [usize; KINDS] = [0, 0, 0, 1, 2, 1, 1, 0, 0, 0, 0, 0, 0];
 
-// Whether reading refuses the frame before it knows the first ASDU's confRev.
-pub fn is_early(f: usize) -> bool {
-    let k = kind(f);
-    k == IN_REVISION || k == BEFORE_REVISION || k == BAD_LENGTH
-}
+const CUT: [usize; KINDS] = [0, 0, 0, 0, 0, 1, 0, 1, 0, 1, 0, 0, 0];
 
-pub fn has_no_asdu(f: usize) -> bool {
-    kind(f) == NO_ASDU
-}
-
-// Whether a later ASDU has another confRev than the first.
-pub fn differs(f: usize) -> bool {
-    let k = kind(f);
-    k == SECOND_DIFFERS || k == THIRD_DIFFERS || k == DIFFERS_CUT || k == DIFFERS_SHORT
-}
-
-// Whether fewer counts and quality words are lent than some frames need.
-pub fn is_short(f: usize) -> bool {
-    let k = kind(f);
-    k == THREE_SHORT || k == DIFFERS_SHORT
-}
-
-fn asdus(f: usize) -> u16 {
-    let k = kind(f);
-    if k == THREE_SHORT || k == SECOND_DIFFERS || k == THIRD_DIFFERS {
-        return 3;
+// The first n octets, or all where there are fewer.
+pub fn first(s: &[u8], n: usize) -> &[u8] {
+    if n <= s.len() {
+        return &s[..n];
     }
-    if k == TWO || k == DIFFERS_CUT || k == DIFFERS_SHORT || k == TWO_CUT {
-        return 2;
+    s
+}
+
+fn header(k: u32) -> EthernetHeader {
+    let mut vlan = Vlan::Untagged;
+    if below(k, 10, 2) == 1 {
+        vlan = Vlan::Tagged(0x8100, 0x6005);
     }
-    1
-}
-
-// Whether a frame has all its fields after the confRev absent, so that they are of known length.
-fn is_plain(f: usize) -> bool {
-    let k = kind(f);
-    k == AFTER_REVISION || k == IN_REVISION
-}
-
-// The stream of a frame.
-fn stream(f: usize) -> u32 {
-    (1000 + f % 1000) as u32
-}
-
-fn is_tagged(f: usize) -> bool {
-    below(stream(f), 10, 2) == 1
-}
-
-fn vlan(f: usize) -> Vlan {
-    if is_tagged(f) {
-        return Vlan::Tagged(0x8100, 0x6005);
-    }
-    Vlan::Untagged
-}
-
-// The place of 60.
-fn pdu_place(f: usize) -> usize {
-    22 + below(stream(f), 10, 2) as usize * 4
-}
-
-fn header(f: usize) -> EthernetHeader {
     EthernetHeader {
         dst_addr: [0x01, 0x0c, 0xcd, 0x04, 0x00, 0x01],
         src_addr: [0, 0, 0, 0, 0, 2],
-        vlan: vlan(f),
+        vlan,
         ether_type: 0x88ba,
         appid: 0x4000,
         length: 0,
     }
 }
 
-fn presence(f: usize, place: u32) -> Presence {
-    if below(stream(f), place, 2) == 0 {
+// Whether a field is there; it never is in a plain frame.
+fn presence(k: u32, place: u32, plain: bool) -> Presence {
+    if plain || below(k, place, 2) == 0 {
         return Presence::Absent;
     }
     Presence::Present
 }
 
-// The presence of a field after the confRev.
-fn later_presence(f: usize, place: u32) -> Presence {
-    if is_plain(f) {
-        return Presence::Absent;
-    }
-    presence(f, place)
-}
-
-fn optional(f: usize, place: u32) -> OptionalU16 {
-    if is_plain(f) || below(stream(f), place, 2) == 0 {
+fn optional(k: u32, place: u32, plain: bool) -> OptionalU16 {
+    if plain || below(k, place, 2) == 0 {
         return OptionalU16::Absent;
     }
     OptionalU16::Present(0x1234)
 }
 
-fn asdu(f: usize) -> SavAsdu {
+// An ASDU of stream k. A plain one has no optional field after the confRev, so that what follows is of
+// known length.
+fn asdu(k: u32, conf_rev: u32, plain: bool) -> SavAsdu {
     SavAsdu {
         msv_id: [b'A'; SavAsdu::MAX_TEXT],
-        dat_set: presence(f, 20),
+        dat_set: presence(k, 20, false),
         dat_set_octets: [b'D'; SavAsdu::MAX_TEXT],
-        refr_tm: later_presence(f, 21),
-        msv_id_len: below(stream(f), 22, 12) as usize,
-        dat_set_len: below(stream(f), 23, 12) as usize,
+        refr_tm: presence(k, 21, plain),
+        msv_id_len: below(k, 22, 12) as usize,
+        dat_set_len: below(k, 23, 12) as usize,
         refr_tm_octets: [1, 2, 3, 4, 5, 6, 7, 8],
         gm_identity_octets: [8, 7, 6, 5, 4, 3, 2, 1],
-        smp_rate: optional(f, 24),
-        smp_mod: optional(f, 25),
-        conf_rev: history::revision_of(row(f)),
-        smp_cnt: (draw(stream(f), 27) % 65536) as u16,
-        smp_synch: (draw(stream(f), 28) % 128) as u8,
-        gm_identity: later_presence(f, 29),
+        smp_rate: optional(k, 24, plain),
+        smp_mod: optional(k, 25, plain),
+        conf_rev,
+        smp_cnt: (draw(k, 27) % 65536) as u16,
+        smp_synch: (draw(k, 28) % 128) as u8,
+        gm_identity: presence(k, 29, plain),
     }
 }
 
-// The other confRev of a frame: that of the next row or of the row before.
-fn other_revision(f: usize) -> u32 {
-    let r = row(f);
-    if r == 0 || below(stream(f), 26, 2) == 0 {
-        return history::revision_of(r % 64 + 1);
+// The row whose confRev the ASDU with the other one has: the next row or the row before.
+fn other_row(k: u32, row: usize) -> usize {
+    if row == 0 {
+        return 1;
     }
-    history::revision_of(r - 1)
+    if below(k, 26, 2) == 0 {
+        return row % 64 + 1;
+    }
+    row - 1
 }
 
-// The same ASDU with the other confRev.
-fn other_asdu(f: usize) -> SavAsdu {
-    let mut a = asdu(f);
-    a.conf_rev = other_revision(f);
-    a
-}
-
-// The ASDUs, of which the second or the third has the other confRev.
-fn pdu(f: usize) -> SavPdu {
-    let mut sav_asdu = [asdu(f); SavPdu::MAX_ASDUS];
-    if differs(f) {
-        if kind(f) == THIRD_DIFFERS {
-            sav_asdu[2] = other_asdu(f);
-        } else {
-            sav_asdu[1] = other_asdu(f);
-        }
+fn pdu(f: usize, k: u32) -> SavPdu {
+    let kind = f % KINDS;
+    let plain = kind == AFTER_REVISION || kind == IN_REVISION;
+    let row = f / KINDS;
+    let a = asdu(k, history::revision_of(row), plain);
+    let mut sav_asdu = [a; SavPdu::MAX_ASDUS];
+    let other = OTHER[kind] % SavPdu::MAX_ASDUS;
+    if 0 < other {
+        sav_asdu[other] = asdu(k, history::revision_of(other_row(k, row)), plain);
     }
     SavPdu {
         sav_asdu,
         security_octets: [0x5e; SavPdu::MAX_SECURITY],
-        security_len: below(stream(f), 30, 9) as usize,
-        no_asdu: asdus(f),
-        sim: below(stream(f), 31, 2) == 1,
-        security: presence(f, 32),
+        security_len: below(k, 30, 9) as usize,
+        no_asdu: ASDUS[kind],
+        sim: below(k, 31, 2) == 1,
+        security: presence(k, 32, false),
     }
 }
 
-fn fill_counts(stream: u32, counts: &mut [i32]) {
-    let mut i = 0;
-    while i < counts.len() {
-        let count = decode_smv::samples::signed(draw(stream, (100 + i % 256) as u32));
-        counts[i] = count;
-        i += 1;
-    }
-}
-
-fn fill_words(stream: u32, words: &mut [u32]) {
-    let mut i = 0;
-    while i < words.len() {
-        words[i] = draw(stream, (400 + i % 256) as u32) % SavAsdu::QUALITY_LIMIT;
-        i += 1;
-    }
-}
-
-// The whole frame in the shortest form: its size, or 0 where the writer refuses it.
-fn write_whole(f: usize, frame: &mut [u8]) -> usize {
+// The whole frame in the shortest form; of no octets where the writer refuses it.
+fn whole(f: usize, k: u32) -> Frame {
     let mut counts = [0; SavDataSetConfig::MAX_SAMPLES];
-    fill_counts(stream(f), &mut counts);
     let mut words = [0; SavDataSetConfig::MAX_SAMPLES];
-    fill_words(stream(f), &mut words);
-    let channels = history::channels_of(row(f));
+    let mut i = 0;
+    while i < SavDataSetConfig::MAX_SAMPLES {
+        let count = decode_smv::samples::signed(draw(k, 100 + i as u32));
+        counts[i] = count;
+        words[i] = draw(k, 400 + i as u32) % SavAsdu::QUALITY_LIMIT;
+        i += 1;
+    }
+    let mut octets = [77; layout::MAX_OCTETS];
     let written = encode_smv::encode_smv(
-        header(f),
-        pdu(f),
-        channels,
+        header(k),
+        pdu(f, k),
+        history::channels_of(f / KINDS),
         false,
         &counts,
         &words,
-        frame,
+        &mut octets,
     );
-    let Written::At(n) = written else {
+    let mut size = 0;
+    if let Written::At(n) = written {
+        size = n;
+    }
+    Frame { octets, size }
+}
+
+// How many octets of a frame of n are kept. What follows the confRev in a plain frame of one ASDU:
+// smpSynch of one octet, 87, its length, the samples.
+fn kept(f: usize, k: u32, n: usize) -> usize {
+    let kind = f % KINDS;
+    if kind == BEFORE_REVISION {
+        return below(k, 33, 39) as usize;
+    }
+    let mut cut = CUT[kind] % 2;
+    if kind == AFTER_REVISION || kind == IN_REVISION {
+        let channels = history::channels_of(f / KINDS) % 25;
+        cut = cut + 5 + channels / 16 + channels * 8;
+    }
+    if n < cut {
         return 0;
-    };
-    n
+    }
+    n - cut
 }
 
-// The place of noASDU, after 60, its length and 80 01.
-fn no_asdu_place(f: usize, frame: &[u8]) -> usize {
-    let length = plus(pdu_place(f), 1);
-    plus(plus(length, 3), minus(octet(frame, length), 128))
-}
-
-// A place past every frame.
-const NOWHERE: usize = 1600;
-
-// The place of the octet that is changed.
-fn changed(f: usize, frame: &[u8]) -> usize {
-    let k = kind(f);
-    if k == BAD_LENGTH {
-        return plus(pdu_place(f), 1);
+// Frame f: changed and cut as its kind is.
+pub fn write(f: usize) -> Frame {
+    let k = (1000 + f % 1000) as u32;
+    let mut frame = whole(f, k);
+    let length = 23 + below(k, 10, 2) as usize % 2 * 4;
+    if f % KINDS == BAD_LENGTH {
+        frame.octets[length] = 0x80;
     }
-    if k == NO_ASDU {
-        return no_asdu_place(f, frame);
+    if f % KINDS == NO_ASDU {
+        let mut at = length + 3;
+        let octet = frame.octets[length];
+        if 128 <= octet {
+            at = at + (octet % 128) as usize;
+        }
+        frame.octets[at % layout::MAX_OCTETS] = 0;
     }
-    NOWHERE
-}
-
-// What it becomes.
-fn changed_octet(f: usize) -> u8 {
-    if kind(f) == BAD_LENGTH {
-        return 0x80;
+    frame.size = kept(f, k, frame.size);
+    let mut i = 0;
+    while i < layout::MAX_OCTETS {
+        if frame.size <= i {
+            frame.octets[i] = 77;
+        }
+        i += 1;
     }
-    0
-}
-
-// What follows the confRev in a plain frame of one ASDU: smpSynch of one octet, 87, its length, the
-// samples.
-fn after_revision(channels: usize) -> usize {
-    if channels % 25 < 16 {
-        return 5 + channels % 25 * 8;
-    }
-    6 + channels % 25 * 8
-}
-
-// How many of n octets are kept.
-fn kept(f: usize, n: usize) -> usize {
-    let k = kind(f);
-    if k == DIFFERS_CUT || k == TWO_CUT {
-        return minus(n, 1);
-    }
-    let rest = after_revision(history::channels_of(row(f)));
-    if k == AFTER_REVISION {
-        return minus(n, rest);
-    }
-    if k == IN_REVISION {
-        return minus(minus(n, rest), 1);
-    }
-    if k == BEFORE_REVISION {
-        return below(stream(f), 33, 39) as usize;
-    }
-    n
-}
-
-// Frame f: how many octets it has.
-pub fn write(f: usize, frame: &mut [u8]) -> usize {
-    let n = write_whole(f, frame);
-    let at = changed(f, frame);
-    put(frame, at, changed_octet(f));
-    kept(f, n)
+    frame
 }

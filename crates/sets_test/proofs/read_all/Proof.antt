@@ -1,19 +1,26 @@
 -- Each turn reads one frame.
 use Prim.Native.Nat.{_-_}
-use lib.ListN.{length}
-use mathlib.Core.Path.{_≡_}
 use borrow.Author.Needs.{needs}
 use Rattle.sets_test.proofs.read_all.Statement.{statement}
 use Rattle.sets_test.proofs.read_all.Tie as tie
 
 abbrev Inv-loop : tie.InvT-loop
-Inv-loop held store numbers scales counts₀ sums₀ flat-sums₀ f₀ counts sums flat-sums f = (length counts ≡ length counts₀) × ((length sums ≡ length sums₀) × (length flat-sums ≡ length flat-sums₀))
+Inv-loop store held t₀ f₀ t f = Unit {0}
 
 abbrev μ-loop : tie.MeasureT-loop
-μ-loop held store numbers scales counts₀ sums₀ flat-sums₀ f₀ counts sums flat-sums f = 442 - f
+μ-loop store held t₀ f₀ t f = 442 - f
 
 loop-holds : tie.Need-loop-holds Inv-loop μ-loop
 loop-holds c = search needs
+
+find-requires : tie.Need-find-requires Inv-loop μ-loop
+find-requires c κs = search needs
+
+more-requires : tie.Need-more-requires Inv-loop μ-loop
+more-requires c κs = search needs
+
+more-requires-2 : tie.Need-more-requires-2 Inv-loop μ-loop
+more-requires-2 c κs = search needs
 
 read-requires : tie.Need-read-requires Inv-loop μ-loop
 read-requires c κs = search needs
@@ -27,15 +34,6 @@ loop-less c = search needs
 loop-again : tie.Need-loop-again Inv-loop μ-loop
 loop-again c = search needs
 
-same-length : tie.Need-same-length Inv-loop μ-loop
-same-length c = search needs
-
-same-length-2 : tie.Need-same-length-2 Inv-loop μ-loop
-same-length-2 c = search needs
-
-same-length-3 : tie.Need-same-length-3 Inv-loop μ-loop
-same-length-3 c = search needs
-
 returns : tie.Need-returns Inv-loop μ-loop
 returns c = search needs
 
@@ -46,11 +44,11 @@ read-all-spec =
     Inv-loop
     μ-loop
     loop-holds
+    find-requires
+    more-requires
+    more-requires-2
     read-requires
     add-f
     loop-less
     loop-again
-    same-length
-    same-length-2
-    same-length-3
     returns)
