@@ -1,4 +1,6 @@
 // Steps over received octets (X.690): a cursor by value, and an enum for each answer.
+#![tactic(auto)]
+
 ghost use Rattle.std.specs.Prelude.{◌≡◌, ◌+◌, ◌-◌, ◌≤◌, ◌<◌, ◌^◌, length, leb};
 ghost use Rattle.definition.specs.Read.{be_at, head_at, number_at, span_at, has_at};
 ghost use Rattle.ber_decode.specs.Told.{told_head, told_number, found_span, beyond_end, width_octets, head_refusal, number_refusal, span_refusal, outcome_refusal};
@@ -6,41 +8,41 @@ ghost use Rattle.ber_decode.specs.Told.{told_head, told_number, found_span, beyo
 use rt_services::Refusal;
 
 // A place in the received octets.
-#[derive(Drop)]
+#[derive(Clone, Copy)]
 pub struct Cursor {
     pub at: usize,
 }
 
 // A tag, its length, and the place after both.
-#[derive(Drop)]
+#[derive(Clone, Copy)]
 pub enum Head {
     Refused(Refusal),
     Is(u8, usize, Cursor),
 }
 
 // An integer, and the place after it.
-#[derive(Drop)]
+#[derive(Clone, Copy)]
 pub enum Number {
     Refused(Refusal),
     Value(u32, Cursor),
 }
 
 // The place of the first of some octets, how many they are, and the place after them.
-#[derive(Drop)]
+#[derive(Clone, Copy)]
 pub enum Span {
     Refused(Refusal),
     Octets(usize, usize, Cursor),
 }
 
 // Where reading goes on, or why it ended.
-#[derive(Drop)]
+#[derive(Clone, Copy)]
 pub enum Outcome {
     Refused(Refusal),
     Next(Cursor),
 }
 
 // The octets of an integer field.
-#[derive(Drop)]
+#[derive(Clone, Copy)]
 pub enum Width {
     One,
     Two,

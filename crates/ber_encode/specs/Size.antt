@@ -2,7 +2,7 @@
 use Rattle.std.specs.Prelude.{◌≡◌, List, ◌∷◌, ◌++◌, cond, ◌⊎◌, ℕ, ◌+◌, ◌≤◌, ◌<◌, length, ltb}
 use Rattle.std.proofs.Common.{sym, ap, ◌∙◌, inl, inr, arith, length-append, lt-ltb, le-ltb}
 use Rattle.definition.specs.Octets.{octets, length_more, length_octets, uint_size, uint_octets, tlv}
-use Rattle.definition.specs.OctetLaws.{lt_or_ge, length_short, length_long, length-octets, length_more-le, length-uint_octets}
+use Rattle.definition.proofs.OctetLaws.{lt_or_ge, length_short, length_long, length-octets, length_more-le, length-uint_octets}
 
 -- the number of length octets of n
 unfoldable pub length_size : ℕ → ℕ

@@ -1,5 +1,7 @@
 // Writers of tag, length and content into a lent slice. The `put_` writers trust that there is
 // room; the `encode_` ones ask for it first.
+#![tactic(auto)]
+
 ghost use Rattle.std.specs.Prelude.{◌≡◌, ◌∷◌, ◌+◌, ◌-◌, ◌/◌, ◌%◌, ◌≤◌, ◌<◌, length};
 ghost use Rattle.definition.specs.Limits.{length_limit};
 ghost use Rattle.definition.specs.Octets.{octets, length_more, length_octets, uint_size, uint_octets, tlv};
@@ -16,7 +18,7 @@ use rt_services::{Refusal, Written};
 const LENGTH_LIMIT: usize = 16777216;
 
 // How many octets follow 81, 82 or 83 in the length n, from 128 on.
-fn length_more_lem(n: usize) -> usize
+fn length_more(n: usize) -> usize
     ensures { result ≡ length_more n }
 {
     if n < 256 {
@@ -35,7 +37,7 @@ pub fn size_length(value: usize) -> usize
     if value < 128 {
         return 1;
     }
-    1 + length_more_lem(value)
+    1 + length_more(value)
 }
 
 // How many content octets an unsigned integer is written in, from its leading zero bits.
@@ -92,7 +94,7 @@ pub fn put_tag_length(buffer: &mut [u8], at: usize, tag: u8, n: usize) -> usize
         buffer[p] = n as u8;
         return p + 1;
     }
-    let k = length_more_lem(n);
+    let k = length_more(n);
     buffer[p] = (0x80 + k) as u8;
     put_octets(buffer, p + 1, k, n as u32)
 }

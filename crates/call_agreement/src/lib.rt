@@ -2,6 +2,8 @@
 // what the theorem of its name in `flat_agreement` says, for every content and every length of the
 // arrays. Nothing is asked of its caller.
 // `fixed` is the form of the counters: fixed, or else shortest.
+#![tactic(auto)]
+
 ghost use Rattle.std.specs.Prelude.{◌≡◌, ◌*◌, ◌≤◌, length, take, not};
 ghost use Rattle.definition.specs.Limits.{bad_description};
 ghost use Rattle.definition.specs.Frame.{all};
@@ -14,7 +16,7 @@ ghost use Rattle.flat_agreement.specs.Theorems.{Returned};
 
 // What two calls answered: the number of each, and what stands beside it; 0 and 0 of a second call
 // that is not made.
-#[derive(Drop)]
+#[derive(Clone, Copy)]
 pub struct Answers {
     pub first: usize,
     pub beside_first: usize,

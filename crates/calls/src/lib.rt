@@ -1,5 +1,7 @@
 // The parts of the calls of the static library that are no other crate's: an answer as a number and a
 // place or a size, the header, an addition to a store of data sets, the values of counts.
+#![tactic(auto)]
+
 ghost use Rattle.std.specs.Prelude.{◌≡◌, ◌*◌, ◌≤◌, length};
 ghost use Rattle.definition.specs.Answers.{over};
 ghost use Rattle.definition.specs.Scaling.{values_answer, values_of};

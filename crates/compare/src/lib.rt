@@ -1,11 +1,13 @@
 // Where two runs of octets differ; and copies of the first elements of an array.
+#![tactic(auto)]
+
 pub mod copy;
 
 ghost use Rattle.std.specs.Prelude.{◌≡◌, true, false, ◌≤◌, ◌<◌, min, length, get_or};
 ghost use Rattle.definition.specs.Answers.{differ};
 ghost use Rattle.compare.specs.Differ.{Agree, difference_of, place_of, ends_differ};
 
-#[derive(Drop)]
+#[derive(Clone, Copy)]
 pub enum Difference {
     Nowhere,
     At(usize),

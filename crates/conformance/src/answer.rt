@@ -6,7 +6,7 @@ use check::same;
 
 // The number of a refusal and its place; or 0 and the number beside accepted. `right` is whether the
 // call left in the lent arrays what it has to.
-#[derive(Drop)]
+#[derive(Clone, Copy)]
 pub struct Answer {
     pub number: usize,
     pub beside: usize,

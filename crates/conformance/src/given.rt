@@ -166,7 +166,7 @@ fn asdu(k: usize, words: &Words) -> usize
 }
 
 // The arguments of a line.
-#[derive(Drop)]
+#[derive(Clone, Copy)]
 pub struct Arguments {
     pub first: usize,
     pub second: usize,

@@ -1,5 +1,7 @@
 // Reads a conformance list from standard input, makes every call that it names, and prints how many
 // answers differ from what the list says. The list's format stands in its first lines.
+#![tactic(auto)]
+
 ghost use Rattle.std.specs.Prelude.{◌≡◌, length};
 
 mod answer;
@@ -31,7 +33,7 @@ const INPUT: usize = 1048576;
 const SHOWN: usize = 20;
 
 // What is counted, and where the line starts.
-#[derive(Drop)]
+#[derive(Clone, Copy)]
 struct Tally {
     start: usize,
     lines: usize,

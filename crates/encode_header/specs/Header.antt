@@ -4,7 +4,7 @@ use Rattle.std.specs.Prelude.{◌≡◌, refl, List, [], ◌∷◌, ◌++◌, Bo
 use Rattle.std.proofs.Common.{◌∙◌, append_assoc, arith, length-append, eqb-true}
 use Rattle.definition.specs.Limits.{smv_ether_type, vlan_tpid}
 use Rattle.definition.specs.Octets.{octets}
-use Rattle.definition.specs.OctetLaws.{length-octets}
+use Rattle.definition.proofs.OctetLaws.{length-octets}
 use Rattle.definition.specs.Frame.{Form, optional, vlan_octets, reserved, pdu_octets, length_of, frame_octets, held}
 use Rattle.definition.specs.Answers.{described}
 use Rattle.rt_services.specs.declared.SavPdu.{SavPdu}

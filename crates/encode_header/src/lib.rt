@@ -1,4 +1,6 @@
 // The writer of a frame's header, up to its PDU.
+#![tactic(auto)]
+
 ghost use Rattle.std.specs.Prelude.{◌≡◌, Bool, true, ℕ, ◌+◌, ◌≤◌, length};
 ghost use Rattle.definition.specs.Frame.{reserved};
 ghost use Rattle.ber_encode.specs.Put.{Wrote};

@@ -1,4 +1,6 @@
 // The Ethernet header of a frame, and the marks that are found by it.
+#![tactic(auto)]
+
 ghost use Rattle.std.specs.Prelude.{◌≡◌, ◌+◌, ◌≤◌, length, get_or, take, drop};
 ghost use Rattle.definition.specs.Limits.{ends_too_soon};
 ghost use Rattle.definition.specs.Read.{be_at, tagged, header_at, header_from, is_smv_frame, simulation_of};
@@ -10,7 +12,7 @@ use ber_decode::{Cursor, Outcome};
 use rt_services::{EthernetHeader, Refusal, Vlan};
 
 // A header that was read; a refusal has it all zero and untagged.
-#[derive(Drop)]
+#[derive(Clone, Copy)]
 pub struct HeaderRead {
     pub outcome: Outcome,
     pub header: EthernetHeader,

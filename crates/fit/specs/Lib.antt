@@ -1,4 +1,1 @@
 pub mod Fit
-pub mod Theorems
-pub mod Example
-pub mod Calls

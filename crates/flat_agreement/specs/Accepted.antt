@@ -9,9 +9,9 @@ use Rattle.definition.specs.Limits.{max_channels, max_text, max_security, max_pd
 use Rattle.definition.specs.Frame.{Form, Asdu, Description, pdu_octets, frame_octets, and, held, all, asdu_fits, fits, writable, Held, All, Accepted}
 use Rattle.definition.specs.Tests.{and_both}
 use Rattle.definition.specs.Answers.{Answer, accepted, refusal, refuse, ordinary_read, again, sized, strict_read}
-use Rattle.definition.specs.Trip.{within}
-use Rattle.definition.specs.Sound.{AsduShort, Short}
-use Rattle.definition.specs.Agreement.{passed, ordinary_agrees}
+use Rattle.definition.proofs.Trip.{within}
+use Rattle.definition.proofs.Sound.{AsduShort, Short}
+use Rattle.definition.proofs.Agreement.{passed, ordinary_agrees}
 use Rattle.definition.specs.Flat.{head_numbers, numbers_for, octets_for, nth, stands, flat_held, flat_read, flat_strict, flat_description, flat_encode}
 use Rattle.flat_agreement.specs.Lent.{Lent, lent_typed}
 

@@ -5,7 +5,7 @@ use Rattle.std.proofs.Common.{sym, ◌∙◌, arith, take-take}
 use Rattle.std.proofs.Math.Path.{ap}
 use Rattle.definition.specs.Frame.{Asdu, Description}
 use Rattle.definition.specs.Answers.{all_counts, all_qualities}
-use Rattle.definition.specs.Samples.{Sampled, sampled_all, first_same}
+use Rattle.definition.proofs.Samples.{Sampled, sampled_all, first_same}
 use Rattle.definition.specs.Flat.{head_numbers, asdu_numbers, head_octets, asdu_octets, nth, flat_asdu, flat_asdus, flat_description}
 use Rattle.flat_agreement.specs.Same.{SameFlatAsdu, SameFlatAsdus, SameFlat}
 

@@ -6,8 +6,8 @@ use Rattle.std.proofs.Common.{arith, lit<}
 use Rattle.definition.specs.Limits.{max_text, max_security, max_asdus}
 use Rattle.definition.specs.Frame.{Asdu, Description, Held, All, Octet, Word, Octets, Of, Tag, AsduTyped, Typed}
 use Rattle.definition.specs.Answers.{all_counts, all_qualities}
-use Rattle.definition.specs.Sound.{AsduShort, Short, all_append, padded_octets}
-use Rattle.definition.specs.Samples.{all_typed}
+use Rattle.definition.proofs.Sound.{AsduShort, Short, all_append, padded_octets}
+use Rattle.definition.proofs.Samples.{all_typed}
 use Rattle.definition.specs.Flat.{or_else, mark, simulation_mark, numbers_of_asdu, octets_of_asdu, joined, numbers_of_head, octets_of_head, numbers_of, octets_of}
 use Rattle.flat_agreement.specs.Lent.{Lent}
 

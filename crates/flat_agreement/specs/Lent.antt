@@ -5,8 +5,8 @@ use Rattle.std.proofs.Common.{arith, length-drop, length-take-le, leb-true}
 use Rattle.definition.specs.Limits.{max_text}
 use Rattle.definition.specs.Frame.{held, Held, All, Octet, Word, Octets, Of, Count, Tag, AsduTyped, Typed}
 use Rattle.definition.specs.Tests.{and_both}
-use Rattle.definition.specs.Sound.{all_take, all_drop, part_octets, number_lt}
-use Rattle.definition.specs.Samples.{length_zip, all_zip}
+use Rattle.definition.proofs.Sound.{all_take, all_drop, part_octets, number_lt}
+use Rattle.definition.proofs.Samples.{length_zip, all_zip}
 use Rattle.definition.specs.Flat.{head_numbers, asdu_numbers, head_octets, asdu_octets, nth, given, behind, asdu_stands, asdus_stand, head_stands, stands, flat_asdu, flat_asdus, flat_description}
 
 -- u32, u8, i32 and u32

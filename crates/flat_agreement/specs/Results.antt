@@ -4,13 +4,13 @@ use Rattle.std.specs.Prelude.{◌≡◌, List, ℕ, ◌≤◌, length, take, dro
 use Rattle.std.proofs.Common.{sym, ap, ◌∙◌, arith}
 use Rattle.definition.specs.Frame.{Form, Description, frame_octets, Octets, Accepted}
 use Rattle.definition.specs.Answers.{accepted, strict_read, over, all_counts, all_qualities}
-use Rattle.definition.specs.Agreement.{accepted_is_frame}
-use Rattle.definition.specs.Sound.{Short}
-use Rattle.definition.specs.Numbers.{accepts_0, encode_answered, strict_answered}
+use Rattle.definition.proofs.Agreement.{accepted_is_frame}
+use Rattle.definition.proofs.Sound.{Short}
+use Rattle.definition.proofs.Numbers.{accepts_0, encode_answered, strict_answered}
 use Rattle.definition.specs.Over.{over_start, take_over, over_length}
-use Rattle.definition.specs.Samples.{all_counts_lem}
+use Rattle.definition.proofs.Samples.{all_counts_lem}
 use Rattle.definition.specs.Flat.{numbers_of, octets_of, nth, flat_description, flat_strict, flat_encode}
-use Rattle.definition.specs.FlatBack.{length-numbers_of, length-octets_of, count_held_lem, flat_back, flat_stands}
+use Rattle.definition.proofs.FlatBack.{length-numbers_of, length-octets_of, count_held_lem, flat_back, flat_stands}
 use Rattle.flat_agreement.specs.Accepted.{writable_short, Takes, encode_takes, flat_strictly}
 use Rattle.flat_agreement.specs.Calls.{WriteCall, StrictCall, Room}
 

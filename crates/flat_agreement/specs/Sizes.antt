@@ -10,8 +10,9 @@ use Rattle.definition.specs.Limits.{bad_description}
 use Rattle.definition.specs.Frame.{Form, frame_octets, and, all, writable}
 use Rattle.definition.specs.Answers.{accepted, refuse}
 use Rattle.definition.specs.Tests.{and_both, and_true, and_false}
-use Rattle.definition.specs.Samples.{length_zip}
-use Rattle.definition.specs.Sizes.{zeroed_asdu, zeroed, frame_length, quality_fits, fits_is, writable_is, first_zeros, rest_zeros}
+use Rattle.definition.proofs.Samples.{length_zip}
+use Rattle.definition.specs.Sizes.{zeroed_asdu, zeroed, quality_fits}
+use Rattle.definition.proofs.Sizes.{frame_length, fits_is, writable_is, first_zeros, rest_zeros}
 use Rattle.definition.specs.Flat.{head_numbers, asdu_numbers, head_octets, asdu_octets, nth, flat_asdu, flat_asdus, flat_description, flat_unsampled, flat_encode, flat_size}
 use Rattle.flat_agreement.specs.Described.{SamplesFit, described_samples}
 use Rattle.flat_agreement.specs.Accepted.{Takes, encode_takes, encode_is, takes_encode}

@@ -6,11 +6,11 @@ use Rattle.std.proofs.Common.{sym, ap, ◌∙◌, arith, take_all}
 use Rattle.definition.specs.Limits.{bad_description}
 use Rattle.definition.specs.Frame.{Form, Description, frame_octets, length_of, all, Octets, Accepted}
 use Rattle.definition.specs.Answers.{accepted, refuse, over, all_counts, all_qualities}
-use Rattle.definition.specs.Agreement.{written_then_strictly_read, one_meaning, handed_back_lem}
-use Rattle.definition.specs.Trip.{within}
-use Rattle.definition.specs.Samples.{all_counts_lem}
-use Rattle.definition.specs.FlatBack.{length-numbers_of, length-octets_of}
-use Rattle.definition.specs.Numbers.{accepts_0, strict_answered, size_answered}
+use Rattle.definition.proofs.Agreement.{written_then_strictly_read, one_meaning, handed_back_lem}
+use Rattle.definition.proofs.Trip.{within}
+use Rattle.definition.proofs.Samples.{all_counts_lem}
+use Rattle.definition.proofs.FlatBack.{length-numbers_of, length-octets_of}
+use Rattle.definition.proofs.Numbers.{accepts_0, strict_answered, size_answered}
 use Rattle.definition.specs.Flat.{numbers_of, octets_of, nth, flat_description, flat_read, flat_strict, flat_encode, flat_size, number_of, beside_it}
 use Rattle.flat_agreement.specs.Same.{SameFlat}
 use Rattle.flat_agreement.specs.Described.{SamplesFit, described_count, described_samples, same_flat_described, described_same_flat}

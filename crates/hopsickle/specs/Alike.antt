@@ -5,10 +5,10 @@ use Rattle.definition.specs.Limits.{lengths_differ}
 use Rattle.definition.specs.Frame.{Description, Form, Octets}
 use Rattle.definition.specs.Answers.{Answer}
 use Rattle.definition.specs.Flat.{flat_read, flat_strict}
-use Rattle.definition.specs.Numbers.{strict_answered}
+use Rattle.definition.proofs.Numbers.{strict_answered}
 use Rattle.fit.specs.Fit.{flat_checked}
-use Rattle.fit.specs.Theorems.{flat_checks, flat_strict_passes}
-use Rattle.fit.specs.Calls as calls
+use Rattle.fit.proofs.Theorems.{flat_checks, flat_strict_passes}
+use Rattle.fit.proofs.Calls as calls
 use Rattle.definition.specs.Calls.{Reads}
 
 -- the frame s, n channels, the arrays that are lent, and those that are left; the answer and the place

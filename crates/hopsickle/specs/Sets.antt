@@ -10,8 +10,8 @@ use Rattle.definition.specs.Flat.{number_of, flat_read}
 use Rattle.rt_services.specs.DataSet.{no_scale, data_set_of}
 use Rattle.rt_services.specs.declared.SavDataSetConfig.{SavDataSetConfig}
 use Rattle.data_sets.specs.DataSets.{read_of, flat_read_by, store_of, channels_of, Adds, ReadsBy}
-use Rattle.data_sets.specs.First.{flat_ordinary}
-use Rattle.data_sets.specs.Theorems.{ByConfRev, flat_by_conf_rev, flat_lasting}
+use Rattle.data_sets.proofs.First.{flat_ordinary}
+use Rattle.data_sets.proofs.Theorems.{ByConfRev, flat_by_conf_rev, flat_lasting}
 use Rattle.set_store.specs.Histories.{Built, more, later_same}
 use Rattle.read_by_sets.specs.Alike.{never_0}
 use Rattle.definition.specs.Calls.{Reads}

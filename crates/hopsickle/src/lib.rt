@@ -3,6 +3,8 @@
 // refusal, or 0, and writes its place, or the size of what it wrote, through the last parameter. A
 // refusal changes none of the arrays.
 // `fixed` is the form of the counters: fixed, or else shortest.
+#![tactic(auto)]
+
 ghost use Rattle.std.specs.Prelude.{◌≡◌, ◌*◌, length};
 ghost use Rattle.definition.specs.Read.{is_smv_frame};
 ghost use Rattle.definition.specs.Frame.{frame_octets};

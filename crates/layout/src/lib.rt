@@ -1,6 +1,8 @@
 // The places of a description in two arrays, one of numbers and one of octets: what stands before
 // the ASDUs, then the same for each ASDU, one after the other. They follow from the limits of the
 // records.
+#![tactic(auto)]
+
 use rt_services::{SavAsdu, SavPdu};
 
 // The numbers before the ASDUs. A mark is 1 where the field is there, else 0.

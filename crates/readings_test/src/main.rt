@@ -5,6 +5,8 @@
 // the answers differ.
 // Frames whose lengths after 87 fit or have been changed, whole and cut: checked reading answers as
 // ordinary reading and the walk say. Prints how many frames there were, and how they were answered.
+#![tactic(auto)]
+
 mod draw;
 mod frames;
 mod lengths;
@@ -16,14 +18,14 @@ use libc::STDOUT_FILENO;
 use rt_services::{SavDataSetConfig, SavPdu};
 
 // The octets of a frame, and how many they are: none where the writer refuses it.
-#[derive(Drop)]
+#[derive(Clone, Copy)]
 pub struct Frame {
     pub octets: [u8; SavPdu::MAX_FRAME],
     pub size: usize,
 }
 
 // Number and place of a refusal, 0 and 0 where there is none; and what is in the arrays.
-#[derive(Drop)]
+#[derive(Clone, Copy)]
 pub struct Reading {
     pub number: usize,
     pub place: usize,
@@ -35,7 +37,7 @@ pub struct Reading {
 
 // The places of the samples of eight ASDUs, whether or not the frame has so many; and the first of
 // the frame's ASDUs with another length before them than 8 times the channels, or 8.
-#[derive(Drop)]
+#[derive(Clone, Copy)]
 pub struct Walked {
     pub places: [usize; SavPdu::MAX_ASDUS],
     pub misfit: usize,

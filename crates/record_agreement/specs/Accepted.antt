@@ -10,15 +10,16 @@ use Rattle.definition.specs.Frame.{Form, Description, pdu_octets, frame_octets, 
 use Rattle.definition.specs.Tests.{and_both, and_true, and_false}
 use Rattle.definition.specs.Answers.{accepted, refusal, refuse, all_counts, all_qualities, described, sized, encode_smv, smv_size}
 use Rattle.definition.specs.HeldLaws.{length-first_of}
-use Rattle.definition.specs.Samples.{length_zip}
-use Rattle.definition.specs.Agreement.{passed}
-use Rattle.definition.specs.Sizes.{zeroed_asdu, zeroed, frame_length, quality_fits, fits_is, writable_is, first_zeros, rest_zeros}
+use Rattle.definition.proofs.Samples.{length_zip}
+use Rattle.definition.proofs.Agreement.{passed}
+use Rattle.definition.specs.Sizes.{zeroed_asdu, zeroed, quality_fits}
+use Rattle.definition.proofs.Sizes.{frame_length, fits_is, writable_is, first_zeros, rest_zeros}
 use Rattle.rt_services.specs.declared.SavAsdu.{SavAsdu}
 use Rattle.rt_services.specs.declared.SavPdu.{SavPdu}
 use Rattle.rt_services.specs.declared.EthernetHeader.{EthernetHeader}
 use Rattle.rt_services.specs.Describe.{asdu_of, asdus_of, pdu_of, header_of, blank_record, description_of, unsampled_of}
 use Rattle.rt_services.specs.Same.{records_of, LongEnough}
-use Rattle.rt_services.specs.Equal.{length_asdus, counts_of_pdu}
+use Rattle.rt_services.proofs.Equal.{length_asdus, counts_of_pdu}
 
 -- ---- the writer
 

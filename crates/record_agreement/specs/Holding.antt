@@ -7,11 +7,11 @@ use Rattle.definition.specs.Frame.{Asdu, Description, Held, All, Octets, Of, Asd
 use Rattle.definition.specs.Held.{filled_to, padded}
 use Rattle.definition.specs.HeldLaws.{length-filled_to}
 use Rattle.definition.specs.Answers.{all_counts, all_qualities}
-use Rattle.definition.specs.Sound.{all_append, padded_octets}
-use Rattle.definition.specs.Samples.{all_typed}
+use Rattle.definition.proofs.Sound.{all_append, padded_octets}
+use Rattle.definition.proofs.Samples.{all_typed}
 use Rattle.rt_services.specs.Describe.{asdu_record, asdu_records, pdu_record, header_record, header_in, pdu_in, description_of}
 use Rattle.definition.specs.Flat.{or_else}
-use Rattle.rt_services.specs.Laws.{number_back, vlan_back, description_held}
+use Rattle.rt_services.proofs.Laws.{number_back, vlan_back, description_held}
 use Rattle.record_agreement.specs.Widths.{AsduWidths, Widths, all_blank}
 
 -- ---- fields

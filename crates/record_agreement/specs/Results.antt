@@ -4,9 +4,9 @@ use Rattle.std.specs.Prelude.{◌≡◌, refl, List, ℕ, ◌*◌, ◌≤◌, le
 use Rattle.std.proofs.Common.{sym, ap, ◌∙◌, arith}
 use Rattle.definition.specs.Frame.{Form, Description, frame_octets, Octets, Accepted}
 use Rattle.definition.specs.Answers.{Answer, accepted, refusal, read_as, strict_read, encode_smv, over, leaves, all_counts, all_qualities}
-use Rattle.definition.specs.Agreement.{accepted_is_frame}
+use Rattle.definition.proofs.Agreement.{accepted_is_frame}
 use Rattle.definition.specs.Over.{take_over, over_length}
-use Rattle.definition.specs.Samples.{all_counts_lem}
+use Rattle.definition.proofs.Samples.{all_counts_lem}
 use Rattle.rt_services.specs.declared.SavPdu.{SavPdu}
 use Rattle.rt_services.specs.declared.EthernetHeader.{EthernetHeader}
 use Rattle.rt_services.specs.Describe.{pdu_record, pdu_in, description_of}

@@ -5,15 +5,15 @@ use Rattle.std.proofs.Common.{sym, ap, ◌∙◌, arith, take_all}
 use Rattle.definition.specs.Limits.{bad_description}
 use Rattle.definition.specs.Frame.{Form, Description, frame_octets, length_of, all, Octets, Accepted}
 use Rattle.definition.specs.Answers.{accepted, refuse, read_as, ordinary_read, strict_read, encode_smv, over, all_counts, all_qualities}
-use Rattle.definition.specs.Agreement.{written_then_strictly_read, ordinary_agrees, one_meaning}
-use Rattle.definition.specs.Samples.{all_counts_lem}
+use Rattle.definition.proofs.Agreement.{written_then_strictly_read, ordinary_agrees, one_meaning}
+use Rattle.definition.proofs.Samples.{all_counts_lem}
 use Rattle.definition.specs.Over.{over_itself}
 use Rattle.definition.specs.Sizes.{quality_fits}
 use Rattle.rt_services.specs.declared.SavPdu.{SavPdu}
 use Rattle.rt_services.specs.declared.EthernetHeader.{EthernetHeader}
 use Rattle.rt_services.specs.Describe.{header_record, pdu_record, header_in, pdu_in, description_of}
 use Rattle.rt_services.specs.Same.{Same, LongEnough}
-use Rattle.rt_services.specs.Equal.{same_described, described_same}
+use Rattle.rt_services.proofs.Equal.{same_described, described_same}
 use Rattle.rt_services.specs.declared.Written.{Written}
 use Rattle.rt_services.specs.declared.Written.TheVariants as written
 use Rattle.rt_services.specs.Told.{told_written, frame_read}

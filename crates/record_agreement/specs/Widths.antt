@@ -8,8 +8,8 @@ use Rattle.definition.specs.Frame.{Held, All, Octet, Word, Octets, Of, Count, Ta
 use Rattle.definition.specs.Answers.{described}
 use Rattle.definition.specs.Held.{held_octets, first_of}
 use Rattle.definition.specs.HeldLaws.{length-first_of}
-use Rattle.definition.specs.Sound.{all_take, all_drop, all_append, all_zeros}
-use Rattle.definition.specs.Samples.{length_zip, all_zip}
+use Rattle.definition.proofs.Sound.{all_take, all_drop, all_append, all_zeros}
+use Rattle.definition.proofs.Samples.{length_zip, all_zip}
 use Rattle.rt_services.specs.declared.SavAsdu.{SavAsdu}
 use Rattle.rt_services.specs.declared.SavPdu.{SavPdu}
 use Rattle.rt_services.specs.declared.EthernetHeader.{EthernetHeader}

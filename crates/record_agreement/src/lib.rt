@@ -2,6 +2,8 @@
 // answers what the theorem of its name in specs/Theorems.antt says, for every record and every array.
 // Nothing is asked of its caller.
 // `fixed` is the form of the counters: fixed, or else shortest.
+#![tactic(auto)]
+
 pub mod widths;
 
 ghost use Rattle.std.specs.Prelude.{◌≡◌, ℕ, ◌*◌, ◌≤◌, length};
@@ -15,7 +17,7 @@ use rt_services::{EthernetHeader, Refusal, SavPdu, SavRead, Written};
 
 // What the two calls answered; of the call that is not made, because the first is refused, a refusal
 // with the number 0.
-#[derive(Drop)]
+#[derive(Clone, Copy)]
 pub struct Answers {
     pub written: Written,
     pub read: SavRead,

@@ -5,7 +5,7 @@ use crate::octets::{part, plus};
 pub const WRONG: usize = 18446744073709551615;
 
 // What this project's code answers: the number and place of a refusal; or number 0, and whether the Rust answers the same.
-#[derive(Drop)]
+#[derive(Clone, Copy)]
 pub struct Ours {
     pub number: usize,
     pub place: usize,

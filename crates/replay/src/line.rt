@@ -3,7 +3,7 @@ use crate::class;
 use crate::octets::{after, first, octet, plus, put};
 
 // The octets that a word of a line stands for, or that it stands for none.
-#[derive(Drop)]
+#[derive(Clone, Copy)]
 pub enum Word {
     Wrong,
     Octets(usize),

@@ -1,5 +1,7 @@
 // Reads lines `KIND REQUEST ANSWER` (oracle/README.md), puts each request to this project's code, holds its answer against
 // the Rust's, and prints how many lines there are of each kind and class.
+#![tactic(auto)]
+
 mod answer;
 mod class;
 mod description;

@@ -8,7 +8,7 @@ use Rattle.definition.specs.Limits.{max_channels, max_sets, too_many_channels, s
 use Rattle.definition.specs.Answers.{accepted, refusal}
 use Rattle.rt_services.specs.declared.SavDataSetConfig.{SavDataSetConfig}
 use Rattle.data_sets.specs.DataSets.{higher, add, held_in, store_of, store_add}
-use Rattle.data_sets.specs.TwoArrays.{store_number}
+use Rattle.data_sets.proofs.TwoArrays.{store_number}
 use Rattle.set_store.specs.declared.Addition.TheVariants as addition
 use Rattle.set_store.specs.Told.{AddedTo}
 use Rattle.set_store.specs.Held.{above_all, higher_is}

@@ -12,9 +12,9 @@ use Rattle.definition.specs.Flat.{nth}
 use Rattle.rt_services.specs.DataSet.{no_scale}
 use Rattle.rt_services.specs.declared.SavDataSetConfig.{SavDataSetConfig}
 use Rattle.data_sets.specs.DataSets.{store_numbers, store_scales, added, stored, held_in, sets_from, store_of, channels_of, store_add, numbers_after, scales_after}
-use Rattle.data_sets.specs.TwoArrays.{store_after}
-use Rattle.data_sets.specs.Store.{Made, made}
-use Rattle.data_sets.specs.Theorems.{Lasting}
+use Rattle.data_sets.proofs.TwoArrays.{store_after}
+use Rattle.data_sets.proofs.Store.{Made, made}
+use Rattle.data_sets.proofs.Theorems.{Lasting}
 use Rattle.set_store.specs.declared.Addition.{Addition}
 use Rattle.set_store.specs.Told.{empty_store, AddedTo}
 

@@ -1,5 +1,7 @@
 // Data sets under their confRevs, each addition higher than all held: the store in two arrays, and as
 // a record of them.
+#![tactic(auto)]
+
 ghost use Rattle.std.specs.Prelude.{◌≡◌, [], ◌∷◌, ◌+◌, ◌*◌, ◌≤◌, ◌<◌};
 ghost use Rattle.std.proofs.lemmas.List.Edits.{sets};
 ghost use Rattle.definition.specs.Limits.{max_channels, max_sets};
@@ -11,7 +13,7 @@ use rt_services::{Refusal, SavDataSetConfig};
 
 // The numbers are how many sets are held, then confRev and channels of each; the scale factors are 24
 // of each.
-#[derive(Drop)]
+#[derive(Clone, Copy)]
 pub struct DataSets {
     pub numbers: [u32; DataSets::NUMBERS],
     pub scales: [f32; DataSets::SCALES],
@@ -36,21 +38,21 @@ impl DataSets {
 }
 
 // What an addition answers: where it is taken, how many sets are held.
-#[derive(Drop)]
+#[derive(Clone, Copy)]
 pub enum Addition {
     Refused(Refusal),
     Taken(usize),
 }
 
 // The answer, and the store after the addition, taken or refused.
-#[derive(Drop)]
+#[derive(Clone, Copy)]
 pub struct Added {
     pub outcome: Addition,
     pub store: DataSets,
 }
 
 // Whether there is a set, and the set; without channels where there is none.
-#[derive(Drop)]
+#[derive(Clone, Copy)]
 pub struct Found {
     pub is: bool,
     pub set: SavDataSetConfig,

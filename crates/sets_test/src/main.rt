@@ -1,5 +1,7 @@
 // A history of forty additions to a store of data sets, with frames of all confRevs read after each.
 // Prints how additions and readings were answered, and how many answers changed or were not expected.
+#![tactic(auto)]
+
 mod additions;
 mod by_flat;
 mod by_records;
@@ -13,7 +15,7 @@ use rt_services::{Refusal, SavDataSetConfig};
 use set_store::DataSets;
 
 // The octets of a frame, with 77 after them, and how many there are.
-#[derive(Drop)]
+#[derive(Clone, Copy)]
 pub struct Frame {
     pub octets: [u8; layout::MAX_OCTETS],
     pub size: usize,
@@ -21,7 +23,7 @@ pub struct Frame {
 
 // Number and place of a refusal, 0 and 0 where there is none; the set handed back; the arrays. Each
 // array is lent with 77 in every element.
-#[derive(Drop)]
+#[derive(Clone, Copy)]
 pub struct Reading {
     pub number: usize,
     pub place: usize,
@@ -34,7 +36,7 @@ pub struct Reading {
 }
 
 // The number of a reading's refusal or 0; whether all is as expected; the checksum, which isn't 0.
-#[derive(Drop)]
+#[derive(Clone, Copy)]
 pub struct Seen {
     pub number: usize,
     pub right: bool,
@@ -42,7 +44,7 @@ pub struct Seen {
 }
 
 // The counts; and for each call the checksum of each frame's first answer that wasn't 15, or 0.
-#[derive(Drop)]
+#[derive(Clone, Copy)]
 pub struct Tally {
     pub counts: [u32; counts::COUNTS],
     pub sums: [u64; counts::CALLS * frames::FRAMES],
@@ -50,7 +52,7 @@ pub struct Tally {
 
 // The store after an addition, how many sets it should hold, the number of the refusal or 0, and
 // whether both calls answer as expected and leave the same store.
-#[derive(Drop)]
+#[derive(Clone, Copy)]
 pub struct Step {
     pub store: DataSets,
     pub held: usize,
@@ -59,7 +61,7 @@ pub struct Step {
 }
 
 // Whether a set is found, and whether that is as expected.
-#[derive(Drop)]
+#[derive(Clone, Copy)]
 pub struct Search {
     pub found: bool,
     pub right: bool,

@@ -1,5 +1,7 @@
 // The program svread: reads a channel number and a frame from standard input, and prints the
 // frame's sizes, counts and quality words, or its refusal.
+#![tactic(auto)]
+
 use libc::{STDIN_FILENO, STDOUT_FILENO};
 
 fn main() {

@@ -1,5 +1,7 @@
 // Inputs of svread and what is printed for each: the file stdout has the texts of document 01, one
 // after the other.
+#![tactic(auto)]
+
 ghost use Rattle.std.specs.Prelude.{◌<◌};
 
 use libc::STDOUT_FILENO;

@@ -3,7 +3,7 @@ ghost use Rattle.std.specs.Prelude.{◌≡◌, ◌%◌, ◌<◌};
 ghost use Rattle.types.specs.Quality.{validity_of, validity_number, is_good};
 
 // Validity of a value, numbered 0 to 3 in this order.
-#[derive(Drop)]
+#[derive(Clone, Copy)]
 pub enum Validity {
     Good,
     Invalid,

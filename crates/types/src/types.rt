@@ -6,7 +6,7 @@ ghost use Rattle.types.specs.Time.{time_quality_of, octet_of, accuracy_bits_of, 
 use crate::enumerations::Validity;
 
 // Quality of a sampled value: its validity, bits 0 and 1 of the quality word, and eleven flags, bits 2 to 12 in this order.
-#[derive(Drop)]
+#[derive(Clone, Copy)]
 pub struct Quality {
     pub validity: Validity,
     pub overflow: bool,
@@ -92,7 +92,7 @@ fn flag(set: bool, weight: u32) -> u32
 
 // Quality of a timestamp. From the highest bit of its octet down: the three flags in this order, and five bits of
 // time_accuracy.
-#[derive(Drop)]
+#[derive(Clone, Copy)]
 pub struct TimeQuality {
     pub leap_second_known: bool,
     pub clock_failure: bool,
@@ -102,7 +102,7 @@ pub struct TimeQuality {
 
 // How many bits of a fraction are accurate; Absent stands for the None of the original: 26 to 30 are invalid, and 31 is
 // unspecified.
-#[derive(Drop)]
+#[derive(Clone, Copy)]
 pub enum AccuracyBits {
     Bits(u8),
     Absent,
@@ -146,7 +146,7 @@ impl TimeQuality {
 }
 
 // Seconds since 1 January 1970, a fraction of a second in units of 2^-24, and the quality of both.
-#[derive(Drop)]
+#[derive(Clone, Copy)]
 pub struct Timestamp {
     pub seconds: u32,
     pub fraction: u32,

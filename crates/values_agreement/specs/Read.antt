@@ -5,13 +5,13 @@ use Rattle.std.proofs.Common.{sym, ap, ◌∙◌, arith, ltb-false}
 use Rattle.definition.specs.Limits.{max_channels, max_asdus, no_room}
 use Rattle.definition.specs.Frame.{Form, Description, Octets}
 use Rattle.definition.specs.Answers.{Answer, accepted, refusal, read_frame, held_by, read_as, ordinary_read, strict_read, over, all_counts}
-use Rattle.definition.specs.Agreement.{passed, ordinary_agrees}
-use Rattle.definition.specs.Sound.{ReadTyped, read_typed}
-use Rattle.definition.specs.Numbers.{accepts_0, ordinary_number, read_answered}
+use Rattle.definition.proofs.Agreement.{passed, ordinary_agrees}
+use Rattle.definition.proofs.Sound.{ReadTyped, read_typed}
+use Rattle.definition.proofs.Numbers.{accepts_0, ordinary_number, read_answered}
 use Rattle.definition.specs.Over.{over_start, over_length}
-use Rattle.definition.specs.Samples.{all_counts_lem}
+use Rattle.definition.proofs.Samples.{all_counts_lem}
 use Rattle.definition.specs.Flat.{numbers_for, octets_for, numbers_of, nth, flat_held, flat_read, flat_strict}
-use Rattle.definition.specs.FlatBack.{length-numbers_of, count_held_lem}
+use Rattle.definition.proofs.FlatBack.{length-numbers_of, count_held_lem}
 use Rattle.rt_services.specs.declared.SavRead.{SavRead}
 use Rattle.rt_services.specs.Told.{frame_read}
 use Rattle.strict_smv.specs.Record.{pdu_of_read}

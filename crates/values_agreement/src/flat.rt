@@ -11,7 +11,7 @@ use layout::NO_ASDU;
 
 // What the calls answered: the number of each, and what stands beside it; 0 and 0 of those that are
 // not made, because the reading is refused.
-#[derive(Drop)]
+#[derive(Clone, Copy)]
 pub struct Answers {
     pub read: usize,
     pub place: usize,

@@ -2,6 +2,8 @@
 // the other, and promises of their answers what the theorem of its name in specs/Records.antt or
 // specs/Flat.antt says. Nothing is asked of its caller.
 // `fixed` is the form of the counters: fixed, or else shortest.
+#![tactic(auto)]
+
 pub mod flat;
 
 ghost use Rattle.std.specs.Prelude.{◌≡◌, ℕ, ◌*◌, ◌≤◌, length, take};
@@ -30,7 +32,7 @@ pub fn value_then_count(count: i32, scale: f32) -> Counted
 
 // What the calls for all counts of a reading answered; no counts where the second call is not made,
 // because the first is refused or there are more values than a description has.
-#[derive(Drop)]
+#[derive(Clone, Copy)]
 pub struct ScaledBack {
     pub valued: Valued,
     pub back: Counts,
@@ -64,7 +66,7 @@ pub fn values_then_counts(
 
 // What the calls for a frame answered; refusals with the number 0 of those that are not made, because
 // the reading is refused.
-#[derive(Drop)]
+#[derive(Clone, Copy)]
 pub struct Answers {
     pub read: SavRead,
     pub valued: Valued,

@@ -5,7 +5,7 @@ use native.Mathlib.Omega.{arith}
 use borrow.Author.Rules.{rules}
 use lib.ListN.{length}
 use Rattle.definition.specs.Octets.{tlv, uint_octets}
-use Rattle.definition.specs.OctetLaws.{length-uint_octets}
+use Rattle.definition.proofs.OctetLaws.{length-uint_octets}
 use Rattle.definition.specs.Answers.{encode_ber}
 use Rattle.ber_encode.specs.Size.{length_size, uint_room}
 use Rattle.ber_encode.specs.Told.{written, refused_as, none_refused, refused_it, wrote_it}

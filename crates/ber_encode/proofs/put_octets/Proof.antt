@@ -8,7 +8,7 @@ use native.Mathlib.Omega.{arith}
 use lib.ListN.{length, set, length-set}
 use Rattle.ber_encode.specs.Put.{put, put_front}
 use Rattle.definition.specs.Octets.{octets}
-use Rattle.definition.specs.OctetLaws.{length-octets}
+use Rattle.definition.proofs.OctetLaws.{length-octets}
 use Rattle.ber_encode.proofs.put_octets.Statement.{statement}
 use Rattle.ber_encode.proofs.put_octets.Tie as tie
 

@@ -4,7 +4,7 @@ use Prim.Native.Nat.{◌+◌}
 use native.Mathlib.Omega.{arith}
 use lib.ListN.{length-set}
 use Rattle.ber_encode.specs.Put.{and_then, one_wrote}
-use Rattle.definition.specs.OctetLaws.{length_more-le, length_short, length_long}
+use Rattle.definition.proofs.OctetLaws.{length_more-le, length_short, length_long}
 use Rattle.ber_encode.specs.Size.{size_short, size_long}
 use borrow.Author.Rules.{rules}
 use Rattle.ber_encode.proofs.put_tag_length.Statement.{statement}

@@ -1,7 +1,7 @@
 -- `ber_encode::put_uint` meets its contract: the octets of its content with their tag. Assumes nothing.
 use native.Mathlib.Omega.{arith}
 use Rattle.definition.specs.Octets.{uint_octets}
-use Rattle.definition.specs.OctetLaws.{uint_size-le}
+use Rattle.definition.proofs.OctetLaws.{uint_size-le}
 use borrow.Author.Rules.{rules}
 use Rattle.ber_encode.proofs.put_uint.Statement.{statement}
 use Rattle.ber_encode.proofs.put_uint.Tie as tie

@@ -2,7 +2,7 @@
 use mathlib.Core.Path.{sym, ap, ◌∙◌}
 use Prim.Native.Nat.{ℕ, ◌+◌}
 use native.Mathlib.Omega.{arith}
-use Rattle.definition.specs.OctetLaws.{length_more-le}
+use Rattle.definition.proofs.OctetLaws.{length_more-le}
 use Rattle.ber_encode.specs.Size.{size_short, size_long}
 use borrow.Author.Rules.{rules}
 use Rattle.ber_encode.proofs.size_length.Statement.{statement}

@@ -9,7 +9,7 @@ use borrow.Author.Tests.{lt-ltb, le-ltb}
 use lib.Count.{count_leading_zeros, leading_le, leading_length}
 use lib.Pow.{pow_mono}
 use Rattle.definition.specs.Octets.{uint_size}
-use Rattle.definition.specs.OctetLaws.{lt_or_ge}
+use Rattle.definition.proofs.OctetLaws.{lt_or_ge}
 use Rattle.ber_encode.proofs.unsigned_integer_length.Statement.{statement}
 use Rattle.ber_encode.proofs.unsigned_integer_length.Tie as tie
 

@@ -2,7 +2,7 @@
 use mathlib.Core.Path.{◌≡◌}
 use Prim.Native.Nat.{ℕ, ◌<◌}
 use native.Mathlib.Omega.{arith}
-use Rattle.definition.specs.Sound.{octets_known}
+use Rattle.definition.proofs.Sound.{octets_known}
 use Rattle.flat_agreement.specs.Calls.{WriteCall, StrictCall}
 use Rattle.flat_agreement.specs.Theorems.{read_then_write}
 use borrow.Author.Rules.{rules}

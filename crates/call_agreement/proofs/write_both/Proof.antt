@@ -1,7 +1,7 @@
 -- `call_agreement::write_both` meets its contract: `write_same`, of arrays whose elements keep to their types.
 use native.Mathlib.Omega.{arith}
 use Rattle.definition.specs.Frame.{Word}
-use Rattle.definition.specs.Sound.{all_known, octets_known}
+use Rattle.definition.proofs.Sound.{all_known, octets_known}
 use Rattle.flat_agreement.specs.Lent.{Lent}
 use Rattle.flat_agreement.specs.Calls.{WriteCall}
 use Rattle.flat_agreement.specs.Theorems.{write_same}

@@ -5,7 +5,7 @@ use native.Mathlib.Omega.{arith}
 use lib.ListN.{take}
 use lib.Seq.{length-take-le}
 use Rattle.definition.specs.Frame.{Word}
-use Rattle.definition.specs.Sound.{all_known, octets_known}
+use Rattle.definition.proofs.Sound.{all_known, octets_known}
 use Rattle.flat_agreement.specs.Lent.{Lent}
 use Rattle.flat_agreement.specs.Calls.{WriteCall, StrictCall}
 use Rattle.flat_agreement.specs.Results.{wrote}

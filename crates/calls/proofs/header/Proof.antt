@@ -1,6 +1,6 @@
 -- `calls::header` meets its contract: each way out is one of the laws of specs/Crosses. Assumes nothing.
 use mathlib.Core.Path.{ap, ◌∙◌}
-use Rattle.rt_services.specs.Laws.{header_held}
+use Rattle.rt_services.proofs.Laws.{header_held}
 use Rattle.rt_services.specs.Describe.{header_of}
 use Rattle.decode_smv.specs.Frame.{headed}
 use Rattle.decode_smv.specs.Frame.{no_header_lem}

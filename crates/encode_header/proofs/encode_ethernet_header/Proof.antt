@@ -7,7 +7,7 @@ use native.Mathlib.Omega.{arith}
 use lib.ListN.{length}
 use Rattle.encode_header.specs.Header.{tag_octets, header_written, smv_octets, length_header, header_fits_lem}
 use Rattle.ber_encode.specs.Put.{and_then}
-use Rattle.definition.specs.OctetLaws.{length-octets}
+use Rattle.definition.proofs.OctetLaws.{length-octets}
 use Rattle.encode_header.proofs.encode_ethernet_header.Statement.{statement}
 use Rattle.encode_header.proofs.encode_ethernet_header.Tie as tie
 

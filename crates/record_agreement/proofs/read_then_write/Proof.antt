@@ -3,7 +3,7 @@ use mathlib.Core.Path.{◌≡◌}
 use Prim.Native.Nat.{ℕ, ◌<◌}
 use native.Mathlib.Omega.{arith}
 use borrow.Author.Rules.{rules}
-use Rattle.definition.specs.Sound.{octets_known}
+use Rattle.definition.proofs.Sound.{octets_known}
 use Rattle.strict_smv.specs.Record.{pdu_of_read}
 use Rattle.record_agreement.specs.Calls.{Encodes, ReadsStrictly}
 use Rattle.record_agreement.specs.Theorems.{read_then_write}

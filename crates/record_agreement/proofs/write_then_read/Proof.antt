@@ -5,7 +5,7 @@ use native.Mathlib.Omega.{arith}
 use lib.Seq.{length-take-le}
 use borrow.Author.Rules.{rules}
 use Rattle.definition.specs.Frame.{Word}
-use Rattle.definition.specs.Sound.{all_known}
+use Rattle.definition.proofs.Sound.{all_known}
 use Rattle.rt_services.specs.declared.Refusal.{Refusal}
 use Rattle.rt_services.specs.declared.Written.{Written}
 use Rattle.rt_services.specs.declared.Written.TheVariants as written

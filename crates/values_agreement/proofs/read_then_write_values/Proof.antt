@@ -2,7 +2,7 @@
 use mathlib.Core.Path.{◌≡◌}
 use Prim.Native.Nat.{ℕ, ◌<◌}
 use native.Mathlib.Omega.{arith}
-use Rattle.definition.specs.Sound.{octets_known}
+use Rattle.definition.proofs.Sound.{octets_known}
 use Rattle.strict_smv.specs.Record.{pdu_of_read}
 use Rattle.record_agreement.specs.Calls.{ReadsOrdinarily}
 use Rattle.values_agreement.specs.Calls.{Scales, EncodesValues}

@@ -9,7 +9,7 @@ use lib.Signed.{mag}
 use lib.ListN.{length, take, get_or}
 use lib.Seq.{take-suc, take_all}
 use Rattle.definition.specs.Frame.{Count, All}
-use Rattle.definition.specs.Sound.{all_append}
+use Rattle.definition.proofs.Sound.{all_append}
 use Rattle.record_agreement.proofs.widths.counts.Statement.{statement}
 use Rattle.record_agreement.proofs.widths.counts.Tie as tie
 

@@ -4,7 +4,7 @@ use Prim.Native.Nat.{ℕ, ◌<◌}
 use native.Mathlib.Omega.{arith}
 use lib.ListN.{length}
 use Rattle.definition.specs.Frame.{Octets}
-use Rattle.definition.specs.Sound.{octets_known}
+use Rattle.definition.proofs.Sound.{octets_known}
 use Rattle.definition.specs.Flat.{nth}
 use Rattle.flat_agreement.specs.Calls.{ReadCall}
 use Rattle.values_agreement.specs.Calls.{ValuesCall, WriteValuesCall}

@@ -1,0 +1,10 @@
+pub mod OctetLaws
+pub mod Samples
+pub mod FlatBack
+pub mod Back
+pub mod Trip
+pub mod Sound
+pub mod Agreement
+pub mod PlacedLaws
+pub mod Sizes
+pub mod Numbers
