@@ -1,10 +1,4 @@
 pub mod Same
-pub mod Absent
-pub mod Described
 pub mod Lent
-pub mod Accepted
-pub mod Sizes
 pub mod Calls
-pub mod Results
-pub mod Holding
 pub mod Theorems

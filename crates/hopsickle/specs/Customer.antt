@@ -6,7 +6,7 @@ use Rattle.definition.specs.Frame.{Description}
 use Rattle.definition.specs.Answers.{Answer, all_counts, all_qualities}
 use Rattle.definition.specs.Flat.{numbers_of, octets_of, left, number_of, beside_it}
 use Rattle.grant.specs.Grant.{flat_granted, hidden}
-use Rattle.grant.specs.Hidden.{flat-same}
+use Rattle.grant.specs.Hidden.{flat_same}
 use Rattle.definition.specs.Calls.{Reads}
 
 -- what the call answers for the frame s, the arrays k, o, cs and qs being lent
@@ -22,7 +22,7 @@ module _ (n mask : ℕ) (s t : List ℕ) (len : length s ≡ length t) (agree : 
       → Reads (Answers n mask t h u ds ps) h h' u u' ds ds' ps ps' r' place'
       → (r ≡ r') × (place ≡ place') × Reads (Answers n mask s k o cs qs) h h' u u' ds ds' ps ps' r' place'
   one_answer k h o u cs ds qs ps a b c d x y =
-      let e : Answers n mask s k o cs qs ≡ Answers n mask t h u ds ps = rw (← a, ← b, ← c, ← d) (flat-same n mask s t len agree (length k) (length o) (length cs) (length qs)) in (
+      let e : Answers n mask s k o cs qs ≡ Answers n mask t h u ds ps = rw (← a, ← b, ← c, ← d) (flat_same n mask s t len agree (length k) (length o) (length cs) (length qs)) in (
         x.number ∙ ap number_of e ∙ sym y.number,
         x.place ∙ ap (beside_it (λ (z : Description × ℕ). 0)) e ∙ sym y.place,
         rw e y,
@@ -34,7 +34,7 @@ module _ (n mask : ℕ) (s t : List ℕ) (len : length s ≡ length t) (agree : 
       → Reads (Answers n mask t k o cs qs) k h' o u' cs ds' qs ps' r' place'
       → (k' ≡ h') × (o' ≡ u') × (cs' ≡ ds') × (qs' ≡ ps')
   one_content k o cs qs x y =
-      let e : Answers n mask s k o cs qs ≡ Answers n mask t k o cs qs = flat-same n mask s t len agree (length k) (length o) (length cs) (length qs) in (
+      let e : Answers n mask s k o cs qs ≡ Answers n mask t k o cs qs = flat_same n mask s t len agree (length k) (length o) (length cs) (length qs) in (
         x.numbers ∙ ap (λ (z : Answer (Description × ℕ)). left numbers_of z k) e ∙ sym y.numbers,
         x.octets ∙ ap (λ (z : Answer (Description × ℕ)). left octets_of z o) e ∙ sym y.octets,
         x.counts ∙ ap (λ (z : Answer (Description × ℕ)). left (λ (w : Description × ℕ). all_counts w.0.asdus) z cs) e ∙ sym y.counts,

@@ -137,16 +137,16 @@ module _ (n : ℕ) (h : EthernetHeader) (p : SavPdu) (cs : List ℤ) (qs : List 
         )
 
     -- what the writer writes has that size
-    pub encode-sized : {size : ℕ} → encode_smv form n (length cs) (length qs) room (description_of n h p cs qs) ≡ accepted size → smv_size form n (unsampled_of n h p) ≡ accepted size
-    encode-sized e =
+    pub encode_sized : {size : ℕ} → encode_smv form n (length cs) (length qs) room (description_of n h p cs qs) ≡ accepted size → smv_size form n (unsampled_of n h p) ≡ accepted size
+    encode_sized e =
         let (t, w) = encode_taken form n (length cs) (length qs) room (description_of n h p cs qs) e in
         let z = (and_both _ _ (sym (writable_is form (description_of n h p cs qs)) ∙ t.writes)).0 in
         rw (← zeroed_is) (taken_size form n (zeroed (description_of n h p cs qs)) t.channels z ∙ ap accepted (frame_length form (description_of n h p cs qs) ∙ sym w))
 
     -- with a buffer of that size the writer writes, unless it refuses a quality word
-    pub sized-encode : {size : ℕ} → smv_size form n (unsampled_of n h p) ≡ accepted size → size ≤ room
+    pub sized_encode : {size : ℕ} → smv_size form n (unsampled_of n h p) ≡ accepted size → size ≤ room
         → encode_smv form n (length cs) (length qs) room (description_of n h p cs qs) ≡ refuse (not (all quality_fits (take (p.no_asdu * n) qs))) bad_description (accepted size)
-    sized-encode {size} e r =
+    sized_encode {size} e r =
         let z : smv_size form n (zeroed d) ≡ accepted size = rw zeroed_is e in
         let (few, w, s) = size_taken form n (zeroed d) z in
         let f : size ≡ length (frame_octets form d) = s ∙ frame_length form d in

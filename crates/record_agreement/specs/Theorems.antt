@@ -22,7 +22,7 @@ use Rattle.strict_smv.specs.Record.{pdu_of_read}
 use Rattle.strict_smv.specs.Strict.{saved_number, describes_as}
 use Rattle.record_agreement.specs.Widths.{Widths}
 use Rattle.record_agreement.specs.Calls.{Encodes, Measures, ReadsStrictly, ReadsOrdinarily}
-use Rattle.record_agreement.specs.Accepted.{taken_encode, described_count, described_samples, encode-sized, sized-encode}
+use Rattle.record_agreement.specs.Accepted.{taken_encode, described_count, described_samples, encode_sized, sized_encode}
 use Rattle.record_agreement.specs.Holding.{typed_widths, held_description, held_count}
 use Rattle.record_agreement.specs.Results.{encoded, encoded_accepted, returned_long, accepts, found}
 
@@ -194,11 +194,11 @@ pub write_sized : {form : Form} {n : ℕ} {h : EthernetHeader} {p : SavPdu} {cs 
     → Encodes form n h p cs qs old new (written.At size) → Measures form n h p w → told_written w ≡ accepted size
 write_sized {form} {n} {h} {p} {cs} {qs} {old} c m =
     let e = encoded c in
-    m.said ∙ encode-sized n h p cs qs e.long form (length old) e.answer
+    m.said ∙ encode_sized n h p cs qs e.long form (length old) e.answer
 
 -- And a buffer of that size is enough: with that many counts and quality words the writer answers it, or 9 where one of the quality
 -- words is 2^13 or more.
 pub size_enough : {form : Form} {n : ℕ} {h : EthernetHeader} {p : SavPdu} {cs : List ℤ} {qs old new : List ℕ} {size : ℕ} {w : Written}
     → Measures form n h p (written.At size) → LongEnough n p cs qs → size ≤ length old → Encodes form n h p cs qs old new w
     → told_written w ≡ refuse (not (all quality_fits (take (p.no_asdu * n) qs))) bad_description (accepted size)
-size_enough {form} {n} {h} {p} {cs} {qs} {old} m long room c = c.said ∙ sized-encode n h p cs qs long form (length old) (sym m.said) room
+size_enough {form} {n} {h} {p} {cs} {qs} {old} m long room c = c.said ∙ sized_encode n h p cs qs long form (length old) (sym m.said) room

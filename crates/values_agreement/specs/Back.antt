@@ -8,7 +8,7 @@ use Rattle.definition.specs.Scaling.{values_of, values_answer, counts_of_values}
 use Rattle.definition.specs.Flat.{number_of}
 use Rattle.definition.specs.Over.{over_start, over_length}
 use Rattle.lossless.specs.Bounds.{AllWithin}
-use Rattle.lossless.specs.Samples.{length-values_of, samples_lossless}
+use Rattle.lossless.proofs.Samples.{length-values_of, samples_lossless}
 
 -- what is accepted, with arrays of a counts and b values
 pub record Fitting (n no_asdu a b : ℕ) : Type 0 where
@@ -39,10 +39,10 @@ module _ (n no_asdu : ℕ) (scales : List Float) (cs : List ℤ) (old : List Flo
   scaled = over old 0 (values_of n scales cs (no_asdu * n))
 
   module _ (fit : Fitting n no_asdu (length cs) (length old)) where
-    pub length-scaled : length scaled ≡ length old
-    length-scaled = over_length old 0 (values_of n scales cs (no_asdu * n)) (omega (arith, length-values_of n scales cs (no_asdu * n), fit.values))
+    pub length_scaled : length scaled ≡ length old
+    length_scaled = over_length old 0 (values_of n scales cs (no_asdu * n)) (omega (arith, length-values_of n scales cs (no_asdu * n), fit.values))
 
-    pub counts-back : AllWithin n scales cs (no_asdu * n) → counts_of_values n scales scaled (no_asdu * n) ≡ accepted (take (no_asdu * n) cs)
-    counts-back within =
+    pub counts_back : AllWithin n scales cs (no_asdu * n) → counts_of_values n scales scaled (no_asdu * n) ≡ accepted (take (no_asdu * n) cs)
+    counts_back within =
         rw (over_start old (values_of n scales cs (no_asdu * n)))
         (samples_lossless n scales cs (no_asdu * n) (drop (length (values_of n scales cs (no_asdu * n))) old) (λ z. ap (λ (i : ℕ). no_asdu * i) z ∙ mul-zero no_asdu) fit.counts within)

@@ -7,12 +7,12 @@ use Rattle.definition.specs.Answers.{accepted, is_refused, over}
 use Rattle.definition.specs.Scaling.{counts_given}
 use Rattle.definition.specs.Flat.{nth, flat_description, flat_encode, flat_encode_values, flat_counts}
 use Rattle.flat_agreement.specs.Calls.{WriteCall, StrictCall, ReadCall}
-use Rattle.flat_agreement.specs.Described.{flat_first}
-use Rattle.flat_agreement.specs.Theorems.{read_then_write}
+use Rattle.flat_agreement.proofs.Described.{flat_first}
+use Rattle.flat_agreement.proofs.Theorems.{read_then_write}
 use Rattle.lossless.specs.Bounds.{AllWithin}
 use Rattle.values_agreement.specs.Calls.{ValuesCall, WriteValuesCall}
 use Rattle.values_agreement.specs.Read.{AcceptedReading, accepted_call, call_as_ordinary}
-use Rattle.values_agreement.specs.Back.{values_answered, fit_values, scaled, length-scaled, counts-back}
+use Rattle.values_agreement.specs.Back.{values_answered, fit_values, scaled, length_scaled, counts_back}
 
 -- of a reading that is accepted the values are too, where the array for them is long enough
 values_taken : {scales : List Float} {no_asdu : ℕ} {cs : List ℤ} {old new : List Float} {r size : ℕ} → AcceptedReading (length scales) no_asdu cs → no_asdu * length scales ≤ length old
@@ -38,9 +38,9 @@ values_written {form} {scales} {k} {o} {cs} {old} {new} {m} {qs} {buffer} {buffe
     let l : List ℤ = take (nth k 9 * n) cs in
     let fit = values_answered n (nth k 9) (length cs) (length old) (sym v.meets.number) in
     let left : new ≡ scaled n (nth k 9) scales cs old = v.meets.array ∙ rw (fit_values n (nth k 9) (length cs) (length old) fit) in
-    let c : flat_counts k scales new ≡ accepted l = rw left (counts-back n (nth k 9) scales cs old fit within) in
+    let c : flat_counts k scales new ≡ accepted l = rw left (counts_back n (nth k 9) scales cs old fit within) in
     let same : flat_description n k o l qs ≡ flat_description n k o cs qs = flat_first n k o cs qs in
-    let long : nth k 9 * n ≤ length new = rw (left, length-scaled n (nth k 9) scales cs old fit) fit.values in
+    let long : nth k 9 * n ≤ length new = rw (left, length_scaled n (nth k 9) scales cs old fit) fit.values in
     let alike = flat_alike form n k o (length new) l cs qs (length buffer) same long fit.counts in
     record { meets = rw (alike, same) at (rw c at e.meets) }
 

@@ -19,8 +19,8 @@ use Rattle.strict_smv.specs.Strict.{refused_number, saved_number}
 use Rattle.record_agreement.specs.Calls.{ReadsOrdinarily, ReadsStrictly}
 use Rattle.record_agreement.specs.Results.{saved_count, accepts}
 use Rattle.flat_agreement.specs.Calls.{ReadCall, StrictCall}
-use Rattle.flat_agreement.specs.Accepted.{flat_strictly, flat_ordinary, flat_strictly_so}
-use Rattle.flat_agreement.specs.Results.{was_read}
+use Rattle.flat_agreement.proofs.Accepted.{flat_strictly, flat_ordinary, flat_strictly_so}
+use Rattle.flat_agreement.proofs.Results.{was_read}
 
 -- n channels and noASDU ASDUs, with so many counts
 pub record AcceptedReading (n no_asdu : ℕ) (cs : List ℤ) : Type 0 where

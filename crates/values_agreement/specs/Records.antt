@@ -26,10 +26,10 @@ use Rattle.record_agreement.specs.Calls.{Encodes, ReadsOrdinarily, ReadsStrictly
 use Rattle.record_agreement.specs.Accepted.{described_count}
 use Rattle.record_agreement.specs.Theorems.{read_then_write}
 use Rattle.lossless.specs.Bounds.{greatest, CountWithin, ScaleWithin, AllWithin}
-use Rattle.lossless.specs.Lossless.{lossless_to}
+use Rattle.lossless.proofs.Lossless.{lossless_to}
 use Rattle.values_agreement.specs.Calls.{Scales, EncodesValues}
 use Rattle.values_agreement.specs.Read.{AcceptedReading, accepted_reading, as_ordinary}
-use Rattle.values_agreement.specs.Back.{values_answered, fit_values, scaled, length-scaled, counts-back}
+use Rattle.values_agreement.specs.Back.{values_answered, fit_values, scaled, length_scaled, counts_back}
 
 -- ---- one count, and all counts of a reading
 
@@ -59,7 +59,7 @@ counts_asked {config} {no_asdu} {cs} {old} {new} {v} {m} x a =
     let fit = values_answered config.channels no_asdu (length cs) (length old) (ap number_of (sym x.said ∙ a)) in
     let many = values_many x a in
     let left : new ≡ scaled config.channels no_asdu config.scale_factor cs old = x.left ∙ rw a in
-    (fit.channels, (λ z. many ∙ ap (λ (i : ℕ). no_asdu * i) z ∙ mul-zero no_asdu, rw (many, left, length-scaled config.channels no_asdu config.scale_factor cs old fit) fit.values))
+    (fit.channels, (λ z. many ∙ ap (λ (i : ℕ). no_asdu * i) z ∙ mul-zero no_asdu, rw (many, left, length_scaled config.channels no_asdu config.scale_factor cs old fit) fit.values))
 
 -- `counts_of` of the values that `values_of` left, with the same data set, has the counts.
 pub values_then_counts : {config : SavDataSetConfig} {no_asdu : ℕ} {cs : List ℤ} {old new : List Float} {v : Valued} {m : ℕ} {q : Counts}
@@ -67,7 +67,7 @@ pub values_then_counts : {config : SavDataSetConfig} {no_asdu : ℕ} {cs : List 
     → q ≡ held_counts (counts_of_values config.channels config.scale_factor new (no_asdu * config.channels)) → q ≡ held_counts (accepted (take (no_asdu * config.channels) cs))
 values_then_counts {config} {no_asdu} {cs} {old} {new} {v} within c a e =
     let fit = values_answered config.channels no_asdu (length cs) (length old) (ap number_of (sym c.said ∙ a)) in
-    e ∙ rw (c.left, a, counts-back config.channels no_asdu config.scale_factor cs old fit within)
+    e ∙ rw (c.left, a, counts_back config.channels no_asdu config.scale_factor cs old fit within)
 
 -- ---- a whole frame
 
@@ -95,9 +95,9 @@ values_written {form} {config} {h} {p} {cs} {old} {new} {v} {m} {qs} {buffer} {b
     let d : Description = description_of n h p cs qs in
     let fit = values_answered n p.no_asdu (length cs) (length old) (ap number_of (sym x.said ∙ a)) in
     let left : new ≡ scaled n p.no_asdu config.scale_factor cs old = x.left ∙ rw a in
-    let c : counts_for p config new ≡ accepted l = rw left (counts-back n p.no_asdu config.scale_factor cs old fit within) in
+    let c : counts_for p config new ≡ accepted l = rw left (counts_back n p.no_asdu config.scale_factor cs old fit within) in
     let k = described_count n h p cs qs in
-    let long : p.no_asdu * n ≤ length new = rw (left, length-scaled n p.no_asdu config.scale_factor cs old fit) fit.values in
+    let long : p.no_asdu * n ≤ length new = rw (left, length_scaled n p.no_asdu config.scale_factor cs old fit) fit.values in
     let said : told_written w ≡ encode_smv form n (length cs) (length qs) (length buffer) d
     = e.said ∙ rw (c, first_counts n h p cs qs) (encode_alike form n (length new) (length cs) (length qs) (length buffer) d l (rw k long) (rw k fit.counts)) in
     record { said = said; left = e.left ∙ rw (said, c, first_counts n h p cs qs) }

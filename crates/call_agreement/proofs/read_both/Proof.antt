@@ -1,6 +1,6 @@
 -- `call_agreement::read_both` meets its contract: `ordinary_same`, of arrays that held the same.
 use Rattle.flat_agreement.specs.Calls.{StrictCall, ReadCall}
-use Rattle.flat_agreement.specs.Theorems.{ordinary_same}
+use Rattle.flat_agreement.proofs.Theorems.{ordinary_same}
 use borrow.Author.Rules.{rules}
 use Rattle.call_agreement.proofs.read_both.Statement.{statement}
 use Rattle.call_agreement.proofs.read_both.Tie as tie

@@ -4,7 +4,7 @@ use Prim.Native.Nat.{ℕ, ◌<◌}
 use native.Mathlib.Omega.{arith}
 use Rattle.definition.proofs.Sound.{octets_known}
 use Rattle.flat_agreement.specs.Calls.{WriteCall, StrictCall}
-use Rattle.flat_agreement.specs.Theorems.{read_then_write}
+use Rattle.flat_agreement.proofs.Theorems.{read_then_write}
 use borrow.Author.Rules.{rules}
 use Rattle.call_agreement.proofs.read_then_write.Statement.{statement}
 use Rattle.call_agreement.proofs.read_then_write.Tie as tie

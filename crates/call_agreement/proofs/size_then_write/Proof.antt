@@ -1,6 +1,6 @@
 -- `call_agreement::size_then_write` meets its contract: `write_sized` and `size_enough`.
 use Rattle.flat_agreement.specs.Calls.{WriteCall, SizeCall}
-use Rattle.flat_agreement.specs.Theorems.{write_sized, size_enough}
+use Rattle.flat_agreement.proofs.Theorems.{write_sized, size_enough}
 use borrow.Author.Rules.{rules}
 use Rattle.call_agreement.proofs.size_then_write.Statement.{statement}
 use Rattle.call_agreement.proofs.size_then_write.Tie as tie

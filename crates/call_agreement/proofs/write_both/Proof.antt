@@ -4,7 +4,7 @@ use Rattle.definition.specs.Frame.{Word}
 use Rattle.definition.proofs.Sound.{all_known, octets_known}
 use Rattle.flat_agreement.specs.Lent.{Lent}
 use Rattle.flat_agreement.specs.Calls.{WriteCall}
-use Rattle.flat_agreement.specs.Theorems.{write_same}
+use Rattle.flat_agreement.proofs.Theorems.{write_same}
 use borrow.Author.Rules.{rules}
 use Rattle.call_agreement.proofs.write_both.Statement.{statement}
 use Rattle.call_agreement.proofs.write_both.Tie as tie

@@ -8,8 +8,8 @@ use Rattle.definition.specs.Frame.{Word}
 use Rattle.definition.proofs.Sound.{all_known, octets_known}
 use Rattle.flat_agreement.specs.Lent.{Lent}
 use Rattle.flat_agreement.specs.Calls.{WriteCall, StrictCall}
-use Rattle.flat_agreement.specs.Results.{wrote}
-use Rattle.flat_agreement.specs.Theorems.{write_then_read}
+use Rattle.flat_agreement.proofs.Results.{wrote}
+use Rattle.flat_agreement.proofs.Theorems.{write_then_read}
 use borrow.Author.Rules.{rules}
 use Rattle.call_agreement.proofs.write_then_read.Statement.{statement}
 use Rattle.call_agreement.proofs.write_then_read.Tie as tie
@@ -84,7 +84,7 @@ returns-2 c =
       qualities = all_known Word 0 a.qualities.now (λ i. omega (arith, c.before.before.before.before.before.before.before.before.before.before.before.before.before.before.before.before.before.before.before.before.before.before.before.before.before.shared-slice-known3.given i));
     } in
     let r = c.before.before.before.before.before.before.before.hopsickle-read-strict in
-    let strict : StrictCall a.fixed a.channels (take vw.new.1.1.1.1.1.1.1.0 vw.new.1.1.1.1.1.1.0) a.numbers-back.now r.new.1.1.1.0 a.octets-back.now r.new.1.1.1.1.0 a.counts-back.now r.new.1.1.1.1.1.0 a.qualities-back.now r.new.1.1.1.1.1.1.0 r.result r.new.1.1.1.1.1.1.1.0 = record { meets = r.ensures } in
+    let strict : StrictCall a.fixed a.channels (take vw.new.1.1.1.1.1.1.1.0 vw.new.1.1.1.1.1.1.0) a.numbers-back.now r.new.1.1.1.0 a.octets-back.now r.new.1.1.1.1.0 a.counts_back.now r.new.1.1.1.1.1.0 a.qualities-back.now r.new.1.1.1.1.1.1.0 r.result r.new.1.1.1.1.1.1.1.0 = record { meets = r.ensures } in
     (w, λ e room. write_then_read lent w0 room strict)
 
 pub write-then-read-spec : {M : Type 1} → statement M

@@ -11,7 +11,7 @@ use Rattle.definition.specs.Over.{over_start, take_over, over_length}
 use Rattle.definition.proofs.Samples.{all_counts_lem}
 use Rattle.definition.specs.Flat.{numbers_of, octets_of, nth, flat_description, flat_strict, flat_encode}
 use Rattle.definition.proofs.FlatBack.{length-numbers_of, length-octets_of, count_held_lem, flat_back, flat_stands}
-use Rattle.flat_agreement.specs.Accepted.{writable_short, Takes, encode_takes, flat_strictly}
+use Rattle.flat_agreement.proofs.Accepted.{writable_short, Takes, encode_takes, flat_strictly}
 use Rattle.flat_agreement.specs.Calls.{WriteCall, StrictCall, Room}
 
 -- what the writer takes, and what it leaves at the start of the buffer

@@ -14,8 +14,8 @@ use Rattle.definition.proofs.Samples.{length_zip}
 use Rattle.definition.specs.Sizes.{zeroed_asdu, zeroed, quality_fits}
 use Rattle.definition.proofs.Sizes.{frame_length, fits_is, writable_is, first_zeros, rest_zeros}
 use Rattle.definition.specs.Flat.{head_numbers, asdu_numbers, head_octets, asdu_octets, nth, flat_asdu, flat_asdus, flat_description, flat_unsampled, flat_encode, flat_size}
-use Rattle.flat_agreement.specs.Described.{SamplesFit, described_samples}
-use Rattle.flat_agreement.specs.Accepted.{Takes, encode_takes, encode_is, takes_encode}
+use Rattle.flat_agreement.proofs.Described.{SamplesFit, described_samples}
+use Rattle.flat_agreement.proofs.Accepted.{Takes, encode_takes, encode_is, takes_encode}
 
 zeroed_asdus : (m n : ℕ) (k o : List ℕ) (cs : List ℤ) (qs : List ℕ) → m * n ≤ length cs → m * n ≤ length qs
     → map zeroed_asdu (flat_asdus m n k o cs qs) ≡ flat_asdus m n k o (replicate (m * n) (pos 0)) (replicate (m * n) 0)
@@ -61,9 +61,9 @@ module _ (n : ℕ) (k o : List ℕ) (cs : List ℤ) (qs : List ℕ) (long : Samp
     same-writable = writable_is form (flat_description n k o cs qs) ∙ rw (zeroed_is, (described_samples n k o cs qs long).1)
 
     -- what the writer writes has that size
-    pub encode-sized : (room : ℕ) {size : ℕ} → flat_encode form n k o cs qs room ≡ accepted size → flat_size form n k o ≡ accepted size
+    pub encode_sized : (room : ℕ) {size : ℕ} → flat_encode form n k o cs qs room ≡ accepted size → flat_size form n k o ≡ accepted size
     unfolding flat_unsampled
-    encode-sized room {size} e =
+    encode_sized room {size} e =
         let (t, w, l) = encode_takes form n k o cs qs room e in
         let z = length-replicate {A = ℤ} (nth k 9 * n) (pos 0) in
         let y = length-replicate {A = ℕ} (nth k 9 * n) 0 in
@@ -82,10 +82,10 @@ module _ (n : ℕ) (k o : List ℕ) (cs : List ℤ) (qs : List ℕ) (long : Samp
         ∙ ap accepted (same_size ∙ sym w)
 
     -- with a buffer of that size the writer writes, unless it refuses a quality word
-    pub sized-encode : (room : ℕ) {size : ℕ} → flat_size form n k o ≡ accepted size → size ≤ room
+    pub sized_encode : (room : ℕ) {size : ℕ} → flat_size form n k o ≡ accepted size → size ≤ room
         → flat_encode form n k o cs qs room ≡ refuse (not (all quality_fits (take (nth k 9 * n) qs))) bad_description (accepted size)
     unfolding fine flat_unsampled
-    sized-encode room {size} e h = go (all quality_fits (take (nth k 9 * n) qs)) refl (encode_takes form n k o no_counts no_qualities _ (sym size_is ∙ e))
+    sized_encode room {size} e h = go (all quality_fits (take (nth k 9 * n) qs)) refl (encode_takes form n k o no_counts no_qualities _ (sym size_is ∙ e))
       where
         go : (q : Bool) → all quality_fits (take (nth k 9 * n) qs) ≡ q
             → Takes form n k o no_counts no_qualities × (size ≡ length (frame_octets form (flat_description n k o no_counts no_qualities))) × (length (frame_octets form (flat_description n k o no_counts no_qualities)) ≤ length (frame_octets form (flat_description n k o no_counts no_qualities)))

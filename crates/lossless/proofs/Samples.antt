@@ -13,7 +13,7 @@ use Rattle.definition.specs.Answers.{Answer, accepted}
 use Rattle.definition.specs.Scaling.{value_of, count_of, up_to, values_of, counts_up_to, counts_of_values}
 use Rattle.definition.specs.UpTo.{channel_below}
 use Rattle.lossless.specs.Bounds.{AllWithin}
-use Rattle.lossless.specs.Lossless.{lossless_to}
+use Rattle.lossless.proofs.Lossless.{lossless_to}
 
 -- ---- f 0, f 1, ..
 

@@ -12,8 +12,10 @@ use Rattle.std.specs.Float.Ieee.Scale.{grid, round_same}
 use Rattle.definition.specs.Answers.{accepted}
 use Rattle.definition.specs.Scaling.{whole_mag, signed, counted, whole_of, value_of, count_of}
 use Rattle.lossless.specs.Bounds.{requested, greatest, CountWithin, ScaleWithin}
-use Rattle.lossless.specs.Rounding.{Near, near_round, round_value}
-use Rattle.lossless.specs.Halves.{Given, scale_above, product_normal, value-under, quotient-normal, quotient-under, from-below, from-above, whole_is}
+use Rattle.lossless.specs.Rounding.{Near}
+use Rattle.lossless.proofs.Rounding.{near_round, round_value}
+use Rattle.lossless.specs.Halves.{Given}
+use Rattle.lossless.proofs.Halves.{scale_above, product_normal, whole_is, value_under, quotient_normal, quotient_under, from_below, from_above}
 
 -- ---- the operations on magnitudes: `HasValue x s a c` says that x is a / c with the sign s
 
@@ -84,7 +86,7 @@ module _ (n m : ℕ) (t : Bool) (e : ℤ) (top : n ≤ greatest) (scale : ScaleW
   q = grid binary32 (r * b) (a * 2 ^ 149)
 
   second : Near (q * (a * 2 ^ 149)) (r * b * 2 ^ 149)
-  second = near_round (r * b) (a * 2 ^ 149) (mul-pos (scale_above given) (pow_pos 149)) (quotient-normal given r first)
+  second = near_round (r * b) (a * 2 ^ 149) (mul-pos (scale_above given) (pow_pos 149)) (quotient_normal given r first)
 
   there_and_back : (x : Float) (s : Bool) → HasValue x s n 1 → count_of (mul binary32 x (fin t m e)) (fin t m e) ≡ accepted (signed s n)
   unfolding count_of
@@ -92,12 +94,12 @@ module _ (n m : ℕ) (t : Bool) (e : ℤ) (top : n ≤ greatest) (scale : ScaleW
       rw (
         product_is x s n t m e h,
         quotient_is (round binary32 (unlike s t) (n * a) b) (unlike s t) r t m e (scale_above given)
-            (round_value (unlike s t) (n * a) b (lt_of_le_of_lt (value-under given r first) (lit< {m = 2 ^ 53 * 2 ^ 149} {n = 2 ^ 277} tt))),
+            (round_value (unlike s t) (n * a) b (lt_of_le_of_lt (value_under given r first) (lit< {m = 2 ^ 53 * 2 ^ 149} {n = 2 ^ 277} tt))),
         unlike_twice s t,
       )
       (count_is (round binary32 s (r * b) (a * 2 ^ 149)) s n q top
-      (round_value s (r * b) (a * 2 ^ 149) (lt_of_le_of_lt (quotient-under given r first q second) (lit< {m = 2 ^ 24 * 2 ^ 149} {n = 2 ^ 277} tt)))
-      (from-below given r first q second) (from-above given r first q second))
+      (round_value s (r * b) (a * 2 ^ 149) (lt_of_le_of_lt (quotient_under given r first q second) (lit< {m = 2 ^ 24 * 2 ^ 149} {n = 2 ^ 277} tt)))
+      (from_below given r first q second) (from_above given r first q second))
 
 -- the count as f32 is exact
 exact : (s : Bool) (n : ℕ) → n ≤ greatest → HasValue (round binary32 s n 1) s n 1
