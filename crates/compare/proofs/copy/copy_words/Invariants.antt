@@ -1,0 +1,15 @@
+-- `compare::copy::copy_words` meets its contract. The invariant: the elements passed stand in the lent array.
+use Prim.Native.Nat.{◌≤◌, ◌-◌}
+use mathlib.Core.Path.{◌≡◌, refl, ◌∙◌}
+use native.Mathlib.Omega.{arith}
+use borrow.Author.Rules.{rules}
+use lib.ListN.{length, take, length-set}
+use Rattle.definition.specs.Answers.{over}
+use Rattle.compare.specs.Copy.{copy_none, copy_more}
+use Rattle.compare.proofs.copy.copy_words.Given as goal
+
+abbrev pub invariant-loop-i : goal.invariant-loop-i
+invariant-loop-i l = (l.i ≤ l.n) × (length l.to ≡ length l.initial.to) × (l.to ≡ over l.initial.to 0 (take l.i l.from))
+
+abbrev pub decreases-loop-i : goal.decreases-loop-i
+decreases-loop-i l = l.n - l.i

@@ -1,0 +1,14 @@
+-- position: from set i on the answer is that of the whole.
+use Prim.Native.Nat.{ℕ, ◌-◌, ◌≤◌}
+use mathlib.Core.Path.{◌≡◌, sym, ap, ◌∙◌}
+use native.Mathlib.Omega.{arith}
+use borrow.Author.Rules.{rules}
+use Rattle.data_sets.specs.DataSets.{held_in}
+use Rattle.set_store.specs.Held.{position_from, position_end, position-stop, position-next}
+use Rattle.set_store.proofs.position.Given as goal
+
+abbrev pub invariant-loop-i : goal.invariant-loop-i
+invariant-loop-i l = (l.i ≤ l.n) × (position_from l.numbers l.conf_rev 0 (held_in l.numbers) ≡ position_from l.numbers l.conf_rev l.i (l.n - l.i))
+
+abbrev pub decreases-loop-i : goal.decreases-loop-i
+decreases-loop-i l = l.n - l.i

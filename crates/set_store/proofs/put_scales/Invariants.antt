@@ -1,0 +1,18 @@
+-- put_scales: after j turns the first j scale factors are put.
+use Prim.Native.Nat.{◌-◌, ◌*◌, ◌≤◌}
+use mathlib.Core.Path.{◌≡◌, ap, ◌∙◌}
+use mathlib.Core.List.{List}
+use native.Mathlib.Omega.{arith}
+use lib.ListN.{length, take}
+use lib.Ieee.{Float}
+use lib.Seq.{sets, take_all}
+use borrow.Author.Rules.{rules}
+use Rattle.definition.specs.Limits.{max_channels}
+use Rattle.set_store.specs.Held.{none_taken, one_taken}
+use Rattle.set_store.proofs.put_scales.Given as goal
+
+abbrev pub invariant-loop-j : goal.invariant-loop-j
+invariant-loop-j l = (l.j ≤ max_channels) × (l.scales ≡ sets l.initial.scales (l.i * max_channels) (take l.j l.set.scale_factor))
+
+abbrev pub decreases-loop-j : goal.decreases-loop-j
+decreases-loop-j l = max_channels - l.j
