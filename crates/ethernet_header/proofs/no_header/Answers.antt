@@ -3,12 +3,8 @@ use mathlib.Core.Path.{refl}
 use Rattle.rt_services.specs.Describe.{header_record}
 use Rattle.definition.specs.Read.{blank_header}
 use Rattle.ethernet_header.specs.Told.{no_header}
-use Rattle.ethernet_header.proofs.no_header.Statement.{statement}
-use Rattle.ethernet_header.proofs.no_header.Tie as tie
+use Rattle.ethernet_header.proofs.no_header.Goals as goal
 
-returns : tie.Need-returns
+pub returns : goal.returns
 unfolding no_header blank_header header_record
 returns c = refl
-
-pub no-header-spec : {M : Type 1} → statement M
-no-header-spec = tie.close (tie.spec returns)
