@@ -2,7 +2,6 @@
 use mathlib.Core.Path.{◌≡◌, sym, ◌∙◌}
 use Prim.Native.Nat.{◌+◌}
 use native.Mathlib.Omega.{arith}
-use borrow.Author.Rules.{rules}
 use lib.ListN.{length}
 use Rattle.definition.specs.Octets.{tlv}
 use Rattle.definition.specs.Answers.{encode_ber}
@@ -17,7 +16,8 @@ returns-then-number-ne0 c = let asked : c.refused_as-number.result
     let end : a.at + (1 + c.size_length.result + length a.value.now) ≡ a.at + length (tlv a.tag a.value.now) = omega (arith, length_tlv a.tag a.value.now) in
     rw end at c.refused_as-number.ensures in
     let a = c.args in
-    refused_it a.buffer.now a.at (length a.value.now) (tlv a.tag a.value.now) c.refused_as-number.result asked c.if-number-ne0.true
+    let both = refused_it a.buffer.now a.at (length a.value.now) (tlv a.tag a.value.now) c.refused_as-number.result asked c.if-number-ne0.true in
+    record { answer = both.0; octets = both.1 }
 
 pub put_string-requires : goal.put_string-requires
 put_string-requires c = let asked : c.refused_as-number.result
@@ -35,5 +35,6 @@ returns c = let asked : c.refused_as-number.result
     let end : a.at + (1 + c.size_length.result + length a.value.now) ≡ a.at + length (tlv a.tag a.value.now) = omega (arith, length_tlv a.tag a.value.now) in
     rw end at c.refused_as-number.ensures in
     let a = c.args in
-    wrote_it a.buffer.now a.at (length a.value.now) (tlv a.tag a.value.now)
-    (sym c.if-number-ne0.false ∙ asked) c.put_string.ensures
+    let both = wrote_it a.buffer.now a.at (length a.value.now) (tlv a.tag a.value.now)
+    (sym c.if-number-ne0.false ∙ asked) c.put_string.ensures in
+    record { answer = both.0; octets = both.1 }

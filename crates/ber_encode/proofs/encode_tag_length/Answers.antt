@@ -3,7 +3,6 @@ use mathlib.Core.Path.{◌≡◌, sym, ◌∙◌}
 use mathlib.Core.List.{◌∷◌}
 use Prim.Native.Nat.{◌+◌}
 use native.Mathlib.Omega.{arith}
-use borrow.Author.Rules.{rules}
 use lib.ListN.{length}
 use Rattle.definition.specs.Octets.{length_octets}
 use Rattle.definition.specs.Answers.{encode_tag_length}
@@ -18,7 +17,8 @@ returns-then-number-ne0 c = let asked : c.refused_as-number.result
     let end : a.at + (1 + c.size_length.result + 0) ≡ a.at + length (a.tag ∷ length_octets a.value) = omega (arith, length_head a.tag a.value) in
     rw end at c.refused_as-number.ensures in
     let a = c.args in
-    refused_it a.buffer.now a.at a.value (a.tag ∷ length_octets a.value) c.refused_as-number.result asked c.if-number-ne0.true
+    let both = refused_it a.buffer.now a.at a.value (a.tag ∷ length_octets a.value) c.refused_as-number.result asked c.if-number-ne0.true in
+    record { answer = both.0; octets = both.1 }
 
 pub put_tag_length-requires : goal.put_tag_length-requires
 put_tag_length-requires c = let asked : c.refused_as-number.result
@@ -36,5 +36,6 @@ returns c = let asked : c.refused_as-number.result
     let end : a.at + (1 + c.size_length.result + 0) ≡ a.at + length (a.tag ∷ length_octets a.value) = omega (arith, length_head a.tag a.value) in
     rw end at c.refused_as-number.ensures in
     let a = c.args in
-    wrote_it a.buffer.now a.at a.value (a.tag ∷ length_octets a.value)
-    (sym c.if-number-ne0.false ∙ asked) c.put_tag_length.ensures
+    let both = wrote_it a.buffer.now a.at a.value (a.tag ∷ length_octets a.value)
+    (sym c.if-number-ne0.false ∙ asked) c.put_tag_length.ensures in
+    record { answer = both.0; octets = both.1 }

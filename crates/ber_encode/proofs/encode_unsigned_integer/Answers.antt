@@ -2,7 +2,6 @@
 use mathlib.Core.Path.{◌≡◌, sym, ap, ◌∙◌}
 use Prim.Native.Nat.{◌+◌}
 use native.Mathlib.Omega.{arith}
-use borrow.Author.Rules.{rules}
 use lib.ListN.{length}
 use Rattle.definition.specs.Octets.{tlv, uint_octets}
 use Rattle.definition.proofs.OctetLaws.{length-uint_octets}
@@ -18,7 +17,8 @@ returns-then-number-ne0 c = let asked : c.refused_as-number.result
     let end : a.at + (1 + c.size_length.result + c.unsigned_integer_length-size.result) ≡ a.at + length (tlv a.tag (uint_octets a.value)) = omega (arith, uint_room a.tag a.value, ap length_size c.unsigned_integer_length-size.ensures) in
     rw (end, c.unsigned_integer_length-size.ensures, ← length-uint_octets a.value) at c.refused_as-number.ensures in
     let a = c.args in
-    refused_it a.buffer.now a.at (length (uint_octets a.value)) (tlv a.tag (uint_octets a.value)) c.refused_as-number.result asked c.if-number-ne0.true
+    let both = refused_it a.buffer.now a.at (length (uint_octets a.value)) (tlv a.tag (uint_octets a.value)) c.refused_as-number.result asked c.if-number-ne0.true in
+    record { answer = both.0; octets = both.1 }
 
 pub put_uint-requires : goal.put_uint-requires
 put_uint-requires c = let asked : c.refused_as-number.result
@@ -36,5 +36,6 @@ returns c = let asked : c.refused_as-number.result
     let end : a.at + (1 + c.size_length.result + c.unsigned_integer_length-size.result) ≡ a.at + length (tlv a.tag (uint_octets a.value)) = omega (arith, uint_room a.tag a.value, ap length_size c.unsigned_integer_length-size.ensures) in
     rw (end, c.unsigned_integer_length-size.ensures, ← length-uint_octets a.value) at c.refused_as-number.ensures in
     let a = c.args in
-    wrote_it a.buffer.now a.at (length (uint_octets a.value)) (tlv a.tag (uint_octets a.value))
-    (sym c.if-number-ne0.false ∙ asked) c.put_uint.ensures
+    let both = wrote_it a.buffer.now a.at (length (uint_octets a.value)) (tlv a.tag (uint_octets a.value))
+    (sym c.if-number-ne0.false ∙ asked) c.put_uint.ensures in
+    record { answer = both.0; octets = both.1 }

@@ -1,4 +1,4 @@
--- `ber_encode::length_more_lem` meets its contract: its tests are the definition's. Assumes nothing.
+-- `ber_encode::length_more` meets its contract: its tests are the definition's. Assumes nothing.
 use borrow.Author.Tests.{lt-ltb, le-ltb}
 use Rattle.definition.specs.Octets.{length_more}
 use Rattle.ber_encode.proofs.length_more.Goals as goal

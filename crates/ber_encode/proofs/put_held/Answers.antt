@@ -3,7 +3,6 @@ use mathlib.Core.Path.{sym}
 use native.Mathlib.Omega.{arith}
 use lib.Seq.{length-take-le}
 use Rattle.definition.specs.HeldLaws.{first_of-take}
-use borrow.Author.Rules.{rules}
 use Rattle.ber_encode.proofs.put_held.Goals as goal
 
 pub slice_bounds-put_string-end : goal.slice_bounds-put_string-end

@@ -2,7 +2,6 @@
 use native.Mathlib.Omega.{arith}
 use Rattle.ber_encode.specs.Put.{and_then}
 use Rattle.ber_encode.specs.Size.{tlv_number, number_room, length-length_octets}
-use borrow.Author.Rules.{rules}
 use Rattle.ber_encode.proofs.put_number.Goals as goal
 
 pub put_tag_length-p-requires : goal.put_tag_length-p-requires

@@ -1,19 +1,17 @@
+-- The steps of `put_octets`: one octet less is left with each turn, and at the end none.
 use mathlib.Core.Path.{◌≡◌, refl, sym, ap, ◌∙◌, subst}
-use mathlib.Core.List.{List, [], ◌∷◌, ◌++◌, append_assoc, append-nil}
-use Prim.Native.Nat.{ℕ, suc, ◌+◌, ◌-◌, ◌/◌, ◌%◌, ◌≤◌}
+use mathlib.Core.List.{List, [], ◌∷◌, append_assoc, append-nil}
+use Prim.Native.Nat.{ℕ, suc, ◌+◌, ◌-◌, ◌/◌, ◌%◌}
 use native.Mathlib.Nat.{add-zero}
 use native.Mathlib.Omega.{arith}
-use lib.ListN.{length, set, length-set}
+use lib.ListN.{set, length-set}
 use Rattle.ber_encode.specs.Put.{put, put_front}
 use Rattle.definition.specs.Octets.{octets}
 use Rattle.definition.proofs.OctetLaws.{length-octets}
+use Rattle.ber_encode.proofs.put_octets.Invariants.{Left}
 use Rattle.ber_encode.proofs.put_octets.Goals as goal
 
--- the octets that are written, w, and those that are left make the whole
-abbrev Rest : List ℕ → ℕ → ℕ → ℕ → List ℕ → ℕ → ℕ → Type 0
-Rest buffer₀ at k v buffer j x = (w : List ℕ) × (octets k v ≡ octets j x ++ w) × (buffer ≡ put buffer₀ (at + j) w)
-
-step : (buffer₀ : List ℕ) (at k v j x : ℕ) (buffer : List ℕ) → Rest buffer₀ at k v buffer (suc j) x → Rest buffer₀ at k v (set buffer (at + j) (x % 256)) j (x / 256)
+step : (buffer₀ : List ℕ) (at k v j x : ℕ) (buffer : List ℕ) → Left buffer₀ at k v buffer (suc j) x → Left buffer₀ at k v (set buffer (at + j) (x % 256)) j (x / 256)
 unfolding octets
 step buffer₀ at k v j x buffer r =
     let e : at + suc j ≡ at + j + 1 = omega arith in (
@@ -32,7 +30,7 @@ loop-j-preserved c = let l = c.loop-j in
     let e : l.j ≡ suc (l.j - 1) = omega arith in (
       omega arith,
       step a.buffer.now a.at a.k a.v (l.j - 1) l.x l.buffer
-          (subst (λ (n : ℕ). Rest a.buffer.now a.at a.k a.v l.buffer n l.x) e l.invariant.1),
+          (subst (λ (n : ℕ). Left a.buffer.now a.at a.k a.v l.buffer n l.x) e l.invariant.1),
       length-set l.buffer (a.at + (l.j - 1)) (l.x % 256) ∙ l.invariant.2,
     )
 
@@ -44,7 +42,7 @@ unfolding octets
 returns c = let l = c.loop-j in
     let a = c.args in
     let z : l.j ≡ 0 = omega arith in
-    let r : Rest a.buffer.now a.at a.k a.v l.buffer 0 l.x = subst (λ (n : ℕ). Rest a.buffer.now a.at a.k a.v l.buffer n l.x) z l.invariant.1 in
+    let r : Left a.buffer.now a.at a.k a.v l.buffer 0 l.x = subst (λ (n : ℕ). Left a.buffer.now a.at a.k a.v l.buffer n l.x) z l.invariant.1 in
     record {
       list = r.2 ∙ ap (λ (n : ℕ). put a.buffer.now n r.0) (add-zero a.at) ∙ ap (λ (w : List ℕ). put a.buffer.now a.at w) (sym r.1);
       place = ap (λ (n : ℕ). a.at + n) (sym (length-octets a.k a.v));

@@ -4,7 +4,6 @@ use lib.ListN.{length}
 use Rattle.ber_encode.specs.Put.{and_then}
 use Rattle.definition.specs.Octets.{tlv}
 use Rattle.ber_encode.specs.Size.{length_tlv, length-length_octets}
-use borrow.Author.Rules.{rules}
 use Rattle.ber_encode.proofs.put_string.Goals as goal
 
 pub put_tag_length-p-requires : goal.put_tag_length-p-requires

@@ -6,7 +6,6 @@ use lib.ListN.{length-set}
 use Rattle.ber_encode.specs.Put.{and_then, one_wrote}
 use Rattle.definition.proofs.OctetLaws.{length_more-le, length_short, length_long}
 use Rattle.ber_encode.specs.Size.{size_short, size_long}
-use borrow.Author.Rules.{rules}
 use Rattle.ber_encode.proofs.put_tag_length.Goals as goal
 
 pub bounds-buffer-p : goal.bounds-buffer-p
@@ -29,10 +28,10 @@ pub put_octets-requires : goal.put_octets-requires
 put_octets-requires c = simp length-set (omega (arith, size_long _ c.if-n-lt128.false))
 
 pub shape_of-buffer : goal.shape_of-buffer
-shape_of-buffer c = c.put_octets.auto.0 ∙ simp length-set
+shape_of-buffer c = c.put_octets.auto.buffer ∙ simp length-set
 
 pub returns : goal.returns
 returns c = let a = c.args in
-    let k = c.before.before.before.before.length_more_lem in
+    let k = c.length_more-k in
     rw (length_long a.n c.if-n-lt128.false, ← k.ensures)
     (and_then (and_then (one_wrote a.buffer.now a.at a.tag) (one_wrote _ (a.at + 1) (128 + k.result))) c.put_octets.ensures)

@@ -2,7 +2,6 @@
 use native.Mathlib.Omega.{arith}
 use Rattle.definition.specs.Octets.{uint_octets}
 use Rattle.definition.proofs.OctetLaws.{uint_size-le}
-use borrow.Author.Rules.{rules}
 use Rattle.ber_encode.proofs.put_uint.Goals as goal
 
 pub put_number-requires : goal.put_number-requires

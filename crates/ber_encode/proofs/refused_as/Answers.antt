@@ -2,7 +2,6 @@
 -- have room. Assumes nothing.
 use Prim.Native.Nat.{◌+◌}
 use native.Mathlib.Omega.{arith}
-use borrow.Author.Rules.{rules}
 use Rattle.ber_encode.specs.Told.{as_no_room, as_too_long, as_none}
 use Rattle.ber_encode.proofs.refused_as.Goals as goal
 

@@ -4,7 +4,6 @@ use Prim.Native.Nat.{ℕ, ◌+◌}
 use native.Mathlib.Omega.{arith}
 use Rattle.definition.proofs.OctetLaws.{length_more-le}
 use Rattle.ber_encode.specs.Size.{size_short, size_long}
-use borrow.Author.Rules.{rules}
 use Rattle.ber_encode.proofs.size_length.Goals as goal
 
 pub returns-then-value-lt128 : goal.returns-then-value-lt128

@@ -9,3 +9,7 @@ overflow_add-result c = omega (arith, length_size-le c.args.n)
 
 pub overflow_add-result-2 : goal.overflow_add-result-2
 overflow_add-result-2 c = omega (arith, length_size-le c.args.n)
+
+pub returns : goal.returns
+unfolding tlv_size
+returns c = search rules
