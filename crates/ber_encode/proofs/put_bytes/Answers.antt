@@ -1,3 +1,4 @@
+-- The steps of `put_bytes`: one octet more with each turn, and at the end all.
 use mathlib.Core.Path.{◌≡◌, refl, ap, ◌∙◌}
 use mathlib.Core.List.{List}
 use Prim.Native.Nat.{ℕ, ◌+◌, ◌≤◌, ◌<◌}
