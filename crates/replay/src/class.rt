@@ -112,10 +112,10 @@ above a limit: refused 4, the Rust answers                                      
 above a limit: refused 4, the Rust refuses further on                                  \
 above a limit: refused 4, the Rust panics further on                                   \
 the Rust panics, header: refused 1 at the buffer length                                \
-the Rust panics, refr_tm: refused 1 at its first content octet                          \
-the Rust panics, gm_identity: refused 5                                                 \
+the Rust panics, refrTm: refused 1 at its first content octet                          \
+the Rust panics, gmIdentity: refused 5                                                 \
 half a VLAN tag: can't be described                                                    \
-no_asdu other than the number of ASDUs: can't be described                              \
+noASDU other than the number of ASDUs: can't be described                              \
 numbers of samples that differ: can't be described                                     \
 outside the limits: refused 9, the Rust answers                                        \
 outside the limits: refused 9, the Rust refuses                                        \
