@@ -1,7 +1,7 @@
 // How an answer of this project stands to the Rust's: alike, or different for a reason that docs/DIFFERENCES.md has.
 use crate::answer::{Ours, has, has64};
 use crate::octets::{first, number16, part};
-use libc::STDOUT_FILENO;
+use std::io;
 
 // The classes are below this.
 pub const CLASSES: usize = 33;
@@ -143,12 +143,13 @@ fn end(s: &[u8]) -> usize {
     i
 }
 
-pub fn print_name(class: usize) {
+pub fn print_name(rt: &impl Print, class: usize) -> io::Result<()> {
     if class < CLASSES {
         let names = NAMES;
         let name = part(&names, class * NAME, NAME);
-        io::write_all(STDOUT_FILENO, first(name, end(name)));
+        rt.write_all(first(name, end(name)))?;
     }
+    Ok(())
 }
 
 // The class of a reading that strict reading accepts: `utf8`, or `lossy` with text that isn't UTF-8.
