@@ -13,7 +13,7 @@ fn main() {
     let library = directory.join("libhopsickle.a");
     if !library.exists() {
         println!(
-            "cargo:warning={} isn't there: `rt staticlib hopsickle` makes it",
+            "cargo:warning={} isn't there: `bindings/staticlib` makes it",
             library.display()
         );
     }

@@ -1,6 +1,6 @@
 //! The original's reader and writer, built unchanged from its own files. Each file is included
-//! into a module that makes its private functions reachable. Its `types.rs` is the symbolic link
-//! beside this file.
+//! into a module that makes its private functions reachable. Its `types.rs` is included by the file
+//! of that name beside this file.
 #![allow(dead_code)]
 
 pub mod ethernet_header {

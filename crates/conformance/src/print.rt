@@ -1,17 +1,17 @@
 // Prints octets and numbers to standard output.
-use libc::STDOUT_FILENO;
+use std::io;
 
-pub fn say(text: &[u8]) {
-    io::write_all(STDOUT_FILENO, text);
+pub fn say(rt: &impl Print, text: &[u8]) -> io::Result<()> {
+    rt.write_all(text)
 }
 
-pub fn decimal(n: usize) {
-    io::print_decimal(STDOUT_FILENO, n as u64);
+pub fn decimal(rt: &impl Print, n: usize) -> io::Result<()> {
+    rt.print(n)
 }
 
 // A number as eight hexadecimal digits.
-pub fn bits(n: usize) {
-    io::print_hex(STDOUT_FILENO, n as u64, 8);
+pub fn bits(rt: &impl Print, n: usize) -> io::Result<()> {
+    print!(rt; "{n:08x}")
 }
 
 fn wide(octet: u8) -> u64 {
@@ -19,24 +19,26 @@ fn wide(octet: u8) -> u64 {
 }
 
 // Octets in hexadecimal.
-pub fn hex(s: &[u8]) {
+pub fn hex(rt: &impl Print, s: &[u8]) -> io::Result<()> {
     let mut i = 0;
     while i < s.len() {
-        io::print_hex(STDOUT_FILENO, wide(s[i]), 2);
+        let octet = wide(s[i]);
+        print!(rt; "{octet:02x}")?;
         i += 1;
     }
+    Ok(())
 }
 
 // The count with these 32 bits in two's complement.
-pub fn count(n: usize) {
+pub fn count(rt: &impl Print, n: usize) -> io::Result<()> {
     if n < 2147483648 {
-        decimal(n);
-        return;
+        return decimal(rt, n);
     }
-    say(b"-");
+    say(rt, b"-")?;
     if n < 4294967296 {
-        decimal(4294967296 - n);
+        decimal(rt, 4294967296 - n)?;
     }
+    Ok(())
 }
 
 // The magnitude of a signed number.

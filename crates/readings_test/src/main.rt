@@ -14,8 +14,8 @@ mod pair;
 mod readings;
 mod walk;
 
-use libc::STDOUT_FILENO;
 use rt_services::{SavDataSetConfig, SavPdu};
+use std::io;
 
 // The octets of a frame, and how many they are: none where the writer refuses it.
 #[derive(Clone, Copy)]
@@ -55,24 +55,25 @@ const REPORT: [u8; REPORT_LENGTH] =
 
 const LINES: usize = 11;
 
-fn print(counts: [u32; LINES]) {
+fn print(rt: &impl Print, counts: [u32; LINES]) -> io::Result<()> {
     let text = REPORT;
     let mut line = 0;
     let mut i = 0;
     while i < REPORT_LENGTH {
         if text[i] == b'#' {
             if line < LINES {
-                io::print_decimal(STDOUT_FILENO, counts[line] as u64);
+                rt.print(counts[line])?;
                 line += 1;
             }
         } else {
-            io::write_all(STDOUT_FILENO, &text[i..i + 1]);
+            rt.write_all(&text[i..i + 1])?;
         }
         i += 1;
     }
+    Ok(())
 }
 
-fn main() {
+fn main(rt: HostRuntime) -> io::Result<()> {
     let mut counts = [0; LINES];
     counts[pair::ALL] = PAIRS;
     counts[lengths::ALL] = FRAMES;
@@ -86,5 +87,5 @@ fn main() {
         counts[frame] = std::num::wrapping_add_u32(counts[frame], 1);
         k += 1;
     }
-    print(counts);
+    print(&rt, counts)
 }

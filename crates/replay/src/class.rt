@@ -1,7 +1,7 @@
 // How an answer of this project stands to the Rust's: alike, or different for a reason that docs/DIFFERENCES.md has.
 use crate::answer::{Ours, has, has64};
 use crate::octets::{first, number16, part};
-use libc::STDOUT_FILENO;
+use std::io;
 
 // The classes are below this.
 pub const CLASSES: usize = 33;
@@ -112,10 +112,10 @@ above a limit: refused 4, the Rust answers                                      
 above a limit: refused 4, the Rust refuses further on                                  \
 above a limit: refused 4, the Rust panics further on                                   \
 the Rust panics, header: refused 1 at the buffer length                                \
-the Rust panics, refr_tm: refused 1 at its first content octet                          \
-the Rust panics, gm_identity: refused 5                                                 \
+the Rust panics, refrTm: refused 1 at its first content octet                          \
+the Rust panics, gmIdentity: refused 5                                                 \
 half a VLAN tag: can't be described                                                    \
-no_asdu other than the number of ASDUs: can't be described                              \
+noASDU other than the number of ASDUs: can't be described                              \
 numbers of samples that differ: can't be described                                     \
 outside the limits: refused 9, the Rust answers                                        \
 outside the limits: refused 9, the Rust refuses                                        \
@@ -143,12 +143,13 @@ fn end(s: &[u8]) -> usize {
     i
 }
 
-pub fn print_name(class: usize) {
+pub fn print_name(rt: &impl Print, class: usize) -> io::Result<()> {
     if class < CLASSES {
         let names = NAMES;
         let name = part(&names, class * NAME, NAME);
-        io::write_all(STDOUT_FILENO, first(name, end(name)));
+        rt.write_all(first(name, end(name)))?;
     }
+    Ok(())
 }
 
 // The class of a reading that strict reading accepts: `utf8`, or `lossy` with text that isn't UTF-8.

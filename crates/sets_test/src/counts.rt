@@ -1,7 +1,7 @@
 // What is counted, and how it is printed.
 use crate::{Seen, Tally, frames, history};
-use libc::STDOUT_FILENO;
 use rt_services::Refusal;
+use std::io;
 
 // Places among the counts, in the order of the lines. All additions; then those taken, refused 8 and
 // 14, and answered otherwise than expected, by either call.
@@ -79,7 +79,7 @@ const REPORT_LENGTH: usize = 366;
 const REPORT: [u8; REPORT_LENGTH] =
     *b"additions: #\ntaken: #\nrefused 8: #\nrefused 14: #\nanswered otherwise than expected: #\nsets found: #\nsets found otherwise than expected: #\nreadings into records\naccepted: #\nrefused 15: #\nrefused 16: #\nrefused otherwise: #\nreadings into flat arrays\naccepted: #\nrefused 15: #\nrefused 16: #\nrefused otherwise: #\nanswers that changed: #\nanswers otherwise than expected: #\n";
 
-pub fn print(tally: Tally) {
+pub fn print(rt: &impl Print, tally: Tally) -> io::Result<()> {
     let counts = tally.counts;
     let text = REPORT;
     let mut line = 0;
@@ -87,12 +87,13 @@ pub fn print(tally: Tally) {
     while i < REPORT_LENGTH {
         if text[i] == b'#' {
             if line < COUNTS {
-                io::print_decimal(STDOUT_FILENO, counts[line] as u64);
+                rt.print(counts[line])?;
                 line += 1;
             }
         } else {
-            io::write_all(STDOUT_FILENO, &text[i..i + 1]);
+            rt.write_all(&text[i..i + 1])?;
         }
         i += 1;
     }
+    Ok(())
 }

@@ -13,6 +13,7 @@ mod readings;
 
 use rt_services::{Refusal, SavDataSetConfig};
 use set_store::DataSets;
+use std::io;
 
 // The octets of a frame, with 77 after them, and how many there are.
 #[derive(Clone, Copy)]
@@ -109,7 +110,7 @@ fn read_all(tally: Tally, store: DataSets, held: usize) -> Tally {
     t
 }
 
-fn main() {
+fn main(rt: HostRuntime) -> io::Result<()> {
     let mut tally = counts::empty();
     let mut store = DataSets::empty();
     let mut held = 0;
@@ -128,5 +129,5 @@ fn main() {
         tally = read_all(tally, store, held);
         k += 1;
     }
-    counts::print(tally);
+    counts::print(&rt, tally)
 }

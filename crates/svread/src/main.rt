@@ -2,13 +2,31 @@
 // frame's sizes, counts and quality words, or its refusal.
 #![tactic(auto)]
 
-use libc::{STDIN_FILENO, STDOUT_FILENO};
+ghost use Rattle.std.specs.Io.{ReadsAtMost};
 
-fn main() {
+use std::io;
+use std::io::Read;
+
+// Reads until buf is full or the input ends, and answers how many octets it put at the start of buf.
+fn read_full(reader: &mut impl Read, buf: &mut [u8]) -> io::Result<usize>
+    ensures { ReadsAtMost result buf.new }
+{
+    let mut done = 0;
+    while done < buf.len() {
+        let n = reader.read(&mut buf[done..])?;
+        if n == 0 {
+            break;
+        }
+        done += n;
+    }
+    Ok(done)
+}
+
+fn main(rt: HostRuntime) -> io::Result<()> {
     // One octet more than the longest input that is read, so that a longer one is told apart.
     let mut input = [0; svread_text::MAX_INPUT + 1];
-    let n = io::read_full(STDIN_FILENO, &mut input);
+    let n = read_full(&mut rt.stdin(), &mut input)?;
     let mut text = [0; svread_text::MAX_TEXT];
     let size = svread_text::svread_text(&input[..n], &mut text);
-    io::write_all(STDOUT_FILENO, &text[..size]);
+    rt.write_all(&text[..size])
 }

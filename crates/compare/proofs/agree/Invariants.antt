@@ -1,10 +1,8 @@
--- `compare::agree` meets its contract. The invariant: while no octet has differed, those passed agree.
-use Prim.Native.Nat.{ℕ, ◌≤◌, ◌-◌}
-use mathlib.Core.Path.{◌≡◌, sym, ◌∙◌}
-use native.Mathlib.Omega.{arith}
-use mathlib.Core.Logic.{⊎_elim}
+-- The loop of `compare::agree`. The invariant: while no octet has differed, those passed agree.
+use Prim.Native.Nat.{◌≤◌, ◌-◌}
+use mathlib.Core.Path.{◌≡◌}
 use mathlib.Core.Bool.{true}
-use Rattle.compare.specs.Differ.{Agree, agree_none, agree_more}
+use Rattle.compare.specs.Differ.{Agree}
 use Rattle.compare.proofs.agree.Given as goal
 
 abbrev pub invariant-loop-i : goal.invariant-loop-i

@@ -1,7 +1,6 @@
 -- `compare::ends` meets its contract: the two cases of `ends_differ`.
 use borrow.Author.Tests.{eq-eqb, ne_eqb}
 use Rattle.compare.specs.Differ.{ends_differ}
-use borrow.Author.Rules.{rules}
 use Rattle.compare.proofs.ends.Goals as goal
 
 pub returns-then-a-b : goal.returns-then-a-b

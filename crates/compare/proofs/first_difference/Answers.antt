@@ -5,7 +5,6 @@ use Prim.Native.Nat.{min}
 use native.Mathlib.Omega.{arith}
 use lib.ListN.{length}
 use Rattle.compare.specs.Differ.{differ_ends, differ_octet}
-use borrow.Author.Rules.{rules}
 use Rattle.compare.proofs.first_difference.Goals as goal
 
 pub returns-then-agree : goal.returns-then-agree

@@ -1,7 +1,7 @@
-use Prim.Native.Nat.{◌≤◌, ◌-◌}
+-- `compare::search` meets its contract: the octets passed agree, and then one differs or all are passed. Assumes nothing.
 use mathlib.Core.Path.{◌≡◌}
 use native.Mathlib.Omega.{arith}
-use Rattle.compare.specs.Differ.{Agree, agree_none, agree_more}
+use Rattle.compare.specs.Differ.{agree_none, agree_more}
 use Rattle.compare.proofs.search.Goals as goal
 
 pub loop-i-init : goal.loop-i-init

@@ -1,8 +1,6 @@
--- `compare::search` meets its contract. The invariant: the octets passed agree.
+-- The loop of `compare::search`. The invariant: the octets passed agree.
 use Prim.Native.Nat.{◌≤◌, ◌-◌}
-use mathlib.Core.Path.{◌≡◌}
-use native.Mathlib.Omega.{arith}
-use Rattle.compare.specs.Differ.{Agree, agree_none, agree_more}
+use Rattle.compare.specs.Differ.{Agree}
 use Rattle.compare.proofs.search.Given as goal
 
 abbrev pub invariant-loop-i : goal.invariant-loop-i

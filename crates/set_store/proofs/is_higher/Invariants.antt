@@ -1,10 +1,8 @@
 -- is_higher: from set i on the answer is that of the whole.
-use Prim.Native.Nat.{ℕ, ◌-◌, ◌≤◌}
-use mathlib.Core.Path.{◌≡◌, sym, ap, ◌∙◌}
-use native.Mathlib.Omega.{arith}
-use borrow.Author.Rules.{rules}
+use Prim.Native.Nat.{◌-◌, ◌≤◌}
+use mathlib.Core.Path.{◌≡◌}
 use Rattle.data_sets.specs.DataSets.{held_in}
-use Rattle.set_store.specs.Held.{above_from, above_end, above-stop, above-next}
+use Rattle.set_store.specs.Held.{above_from}
 use Rattle.set_store.proofs.is_higher.Given as goal
 
 abbrev pub invariant-loop-i : goal.invariant-loop-i

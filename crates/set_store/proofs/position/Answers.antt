@@ -1,7 +1,7 @@
-use Prim.Native.Nat.{ℕ, ◌-◌, ◌≤◌}
+-- `set_store::position` meets its contract: set i is the one, or the answer is that from set i + 1 on.
+use Prim.Native.Nat.{ℕ, ◌-◌}
 use mathlib.Core.Path.{◌≡◌, sym, ap, ◌∙◌}
 use native.Mathlib.Omega.{arith}
-use borrow.Author.Rules.{rules}
 use Rattle.data_sets.specs.DataSets.{held_in}
 use Rattle.set_store.specs.Held.{position_from, position_end, position-stop, position-next}
 use Rattle.set_store.proofs.position.Goals as goal

@@ -1,8 +1,9 @@
-use Prim.Native.Nat.{◌-◌, ◌*◌, ◌≤◌}
+-- `set_store::put_scales` meets its contract: one scale factor more is put each time.
+use Prim.Native.Nat.{◌*◌}
 use mathlib.Core.Path.{◌≡◌, ap, ◌∙◌}
 use mathlib.Core.List.{List}
 use native.Mathlib.Omega.{arith}
-use lib.ListN.{length, take}
+use lib.ListN.{length}
 use lib.Ieee.{Float}
 use lib.Seq.{sets, take_all}
 use borrow.Author.Rules.{rules}
@@ -17,10 +18,10 @@ pub loop-j-preserved : goal.loop-j-preserved
 loop-j-preserved c = let long : length c.args.set.scale_factor ≡ max_channels = search rules in
     let l = c.loop-j in (
       omega arith,
-      one_taken c.args.scales.now (c.args.i * max_channels) c.args.set.scale_factor l.j _ (omega (arith, long c)) l.invariant.1,
+      one_taken c.args.scales.now (c.args.i * max_channels) c.args.set.scale_factor l.j _ (omega (arith, long)) l.invariant.1,
     )
 
 pub returns : goal.returns
 returns c = let long : length c.args.set.scale_factor ≡ max_channels = search rules in
     let e : c.loop-j.j ≡ max_channels = omega (arith, c.loop-j.invariant.0) in
-    (rw e at c.loop-j.invariant.1) ∙ ap (λ (l : List Float). sets c.args.scales.now (c.args.i * max_channels) l) (take_all max_channels c.args.set.scale_factor (omega (arith, long c)))
+    (rw e at c.loop-j.invariant.1) ∙ ap (λ (l : List Float). sets c.args.scales.now (c.args.i * max_channels) l) (take_all max_channels c.args.set.scale_factor (omega (arith, long)))

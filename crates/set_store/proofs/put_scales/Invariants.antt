@@ -1,14 +1,9 @@
 -- put_scales: after j turns the first j scale factors are put.
 use Prim.Native.Nat.{◌-◌, ◌*◌, ◌≤◌}
-use mathlib.Core.Path.{◌≡◌, ap, ◌∙◌}
-use mathlib.Core.List.{List}
-use native.Mathlib.Omega.{arith}
-use lib.ListN.{length, take}
-use lib.Ieee.{Float}
-use lib.Seq.{sets, take_all}
-use borrow.Author.Rules.{rules}
+use mathlib.Core.Path.{◌≡◌}
+use lib.ListN.{take}
+use lib.Seq.{sets}
 use Rattle.definition.specs.Limits.{max_channels}
-use Rattle.set_store.specs.Held.{none_taken, one_taken}
 use Rattle.set_store.proofs.put_scales.Given as goal
 
 abbrev pub invariant-loop-j : goal.invariant-loop-j

@@ -1,11 +1,10 @@
-use Prim.Native.Nat.{◌+◌, ◌-◌, ◌*◌, ◌≤◌}
+-- `set_store::scales_at` meets its contract: one scale factor more is copied each time.
+use Prim.Native.Nat.{◌+◌, ◌*◌}
 use mathlib.Core.Path.{◌≡◌}
 use native.Mathlib.Omega.{arith}
 use lib.ListN.{get_or}
-use lib.Seq.{sets}
 use lib.Ieee.{nan}
 use Rattle.definition.specs.Limits.{max_channels}
-use Rattle.definition.specs.Scaling.{up_to}
 use Rattle.set_store.specs.Held.{none_up, one_up}
 use Rattle.set_store.proofs.scales_at.Goals as goal
 

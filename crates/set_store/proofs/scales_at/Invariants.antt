@@ -1,13 +1,11 @@
 -- scales_at: after j turns the first j scale factors are copied.
 use Prim.Native.Nat.{◌+◌, ◌-◌, ◌*◌, ◌≤◌}
 use mathlib.Core.Path.{◌≡◌}
-use native.Mathlib.Omega.{arith}
 use lib.ListN.{get_or}
 use lib.Seq.{sets}
 use lib.Ieee.{nan}
 use Rattle.definition.specs.Limits.{max_channels}
 use Rattle.definition.specs.Scaling.{up_to}
-use Rattle.set_store.specs.Held.{none_up, one_up}
 use Rattle.set_store.proofs.scales_at.Given as goal
 
 abbrev pub invariant-loop-j : goal.invariant-loop-j

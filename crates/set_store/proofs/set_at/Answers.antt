@@ -2,7 +2,6 @@
 use mathlib.Core.Path.{refl, ◌∙◌}
 use Rattle.definition.specs.Limits.{max_channels}
 use Rattle.set_store.specs.Held.{all_up, set_is}
-use borrow.Author.Rules.{rules}
 use Rattle.set_store.proofs.set_at.Goals as goal
 
 pub returns : goal.returns

@@ -1,15 +1,8 @@
--- `compare::copy::copy_counts` meets its contract. The invariant: the elements passed stand in the lent array.
-use lib.IntN.{pos}
-use mir.Val.{to_z, of_z}
-use mir.ValLaws.{to_z-of_z}
-use mir.Syntax.{w32}
+-- The loop of `compare::copy::copy_counts`. The invariant: the elements passed stand in the lent array.
 use Prim.Native.Nat.{◌≤◌, ◌-◌}
-use mathlib.Core.Path.{◌≡◌, refl, ◌∙◌}
-use native.Mathlib.Omega.{arith}
-use borrow.Author.Rules.{rules}
-use lib.ListN.{length, take, get_or, length-set}
+use mathlib.Core.Path.{◌≡◌}
+use lib.ListN.{length, take}
 use Rattle.definition.specs.Answers.{over}
-use Rattle.compare.specs.Copy.{copy_none, copy_more}
 use Rattle.compare.proofs.copy.copy_counts.Given as goal
 
 abbrev pub invariant-loop-i : goal.invariant-loop-i

@@ -1,9 +1,7 @@
-use Prim.Native.Nat.{◌≤◌, ◌-◌}
+-- `compare::copy::copy_words` meets its contract: one element more each time. Assumes nothing.
 use mathlib.Core.Path.{◌≡◌, refl, ◌∙◌}
 use native.Mathlib.Omega.{arith}
-use borrow.Author.Rules.{rules}
-use lib.ListN.{length, take, length-set}
-use Rattle.definition.specs.Answers.{over}
+use lib.ListN.{length-set}
 use Rattle.compare.specs.Copy.{copy_none, copy_more}
 use Rattle.compare.proofs.copy.copy_words.Goals as goal
 

@@ -1,2 +1,0 @@
-// The original's file, unchanged.
-include!("../../../../shared/docs/src/src/types/enumerations.rs");
