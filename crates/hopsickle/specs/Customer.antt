@@ -6,7 +6,7 @@ use Rattle.definition.specs.Frame.{Description}
 use Rattle.definition.specs.Answers.{Answer, all_counts, all_qualities}
 use Rattle.definition.specs.Flat.{numbers_of, octets_of, left, number_of, beside_it}
 use Rattle.grant.specs.Grant.{flat_granted, hidden}
-use Rattle.grant.specs.Hidden.{flat_same}
+use Rattle.grant.proofs.HiddenOctets.{flat_same}
 use Rattle.definition.specs.Calls.{Reads}
 
 -- what the call answers for the frame s, the arrays k, o, cs and qs being lent

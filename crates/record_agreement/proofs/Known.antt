@@ -1,8 +1,6 @@
 -- What holding a header and a PDU tells of their fields: each keeps to the width of its type.
-use mathlib.Core.Path.{sym, ◌∙◌}
-use mathlib.Core.List.{List, [], ◌∷◌, map}
+use mathlib.Core.List.{List, [], ◌∷◌}
 use Prim.Native.Nat.{ℕ, ◌<◌}
-use lib.ListN.{length-map}
 use lib.IntN.{ℤ}
 use mir.Syntax.{w8}
 use mir.Val.{Val}
@@ -31,14 +29,14 @@ use Rattle.rt_services.specs.contracts.OptionalU16 as optional-type
 use Rattle.record_agreement.specs.Widths.{AsduWidths, Widths}
 
 -- an array: what each element's type tells of it
-each_known : {A B : Type 0} (f : B → List Val → Fml) (into : A → B) (P : A → Type 0) → ((x : A) (vs : List Val) → shadow (f (into x) vs) → P x) → (xs : List A) (us : List Val) → shadow (each B f (map into xs) us) → All P xs
+each_known : {A : Type 0} (f : A → List Val → Fml) (P : A → Type 0) → ((x : A) (vs : List Val) → shadow (f x vs) → P x) → (xs : List A) (us : List Val) → shadow (each A f xs us) → All P xs
 unfolding All
-each_known f into P g [] us h = tt
-each_known f into P g (x ∷ xs) [] h = absurd h
-each_known f into P g (x ∷ xs) (u ∷ us) h = (g x (u ∷ []) h.0, each_known f into P g xs us h.1)
+each_known f P g [] us h = tt
+each_known f P g (x ∷ xs) [] h = absurd h
+each_known f P g (x ∷ xs) (u ∷ us) h = (g x (u ∷ []) h.0, each_known f P g xs us h.1)
 
-octets_known : (n : ℕ) (xs : List ℕ) (vs : List Val) → Is (Array (UInt w8) n) (map (λ (x : ℕ). x) xs) vs → Of n xs
-octets_known n xs vs h = record { size = sym (length-map xs _) ∙ h.1.0.1; each = each_known (UInt w8).own_val (λ (x : ℕ). x) Octet (λ x vs k. k.1) xs h.0 h.1.1 }
+octets_known : (n : ℕ) (xs : List ℕ) (vs : List Val) → Is (Array (UInt w8) n) xs vs → Of n xs
+octets_known n xs vs h = record { size = h.1.0.1; each = each_known (UInt w8).own_val Octet (λ x vs k. k.1) xs h.0 h.1.1 }
 
 vlan_known : (v : Vlan) (vs : List Val) → Is (enum.row vlan-type.the_type) v vs → Held Tag (tag_of v)
 unfolding Held
@@ -69,7 +67,7 @@ asdu_known a vs h =
 records_known : (p : SavPdu) (vs : List Val) → Is (struct.row sav-pdu.the_type) p vs → All AsduWidths p.sav_asdu
 records_known p vs h =
     let f = h.1.1.0 in
-    each_known (sav-asdu.the_field).row.own_val (sav-asdu.the_field).into AsduWidths asdu_known p.sav_asdu f.0 f.1.1
+    each_known (sav-asdu.the_row).own_val AsduWidths asdu_known p.sav_asdu f.0 f.1.1
 
 -- A header, a PDU, counts and quality words.
 pub known : (h : EthernetHeader) (p : SavPdu) (cs : List ℤ) (qs : List ℕ) (vs us : List Val) → Is (struct.row ethernet-header.the_type) h vs → Is (struct.row sav-pdu.the_type) p us
