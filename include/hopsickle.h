@@ -14,20 +14,20 @@
  * Every function answers 0 where it accepts, else the number of a refusal, and then the only thing
  * it has written is the place, or the size, written or held. hopsickle_is_smv alone answers a bool.
  *
- * What is proved of the calls together (crates/flat_agreement/specs/Theorems.antt). Two descriptions of
+ * What is proved of the calls together (crates/flat_agreement/proofs/Theorems.antt). Two descriptions of
  * one number of channels are equal when they say the same of all that counts: numbers behind a mark of
  * 0, Length, spare octets and what lies past noASDU don't.
- * - write-then-read: what hopsickle_write wrote, hopsickle_read_strict accepts into arrays that are long
+ * - write_then_read: what hopsickle_write wrote, hopsickle_read_strict accepts into arrays that are long
  *   enough, and hands back an equal description, with zeros where nothing counts.
- * - read-then-write: what hopsickle_read_strict accepts, hopsickle_write writes from the arrays handed
+ * - read_then_write: what hopsickle_read_strict accepts, hopsickle_write writes from the arrays handed
  *   back as the octets that were read, and leaves the rest of the buffer as it was.
- * - accepted-exactly: hopsickle_read_strict accepts exactly the octets that hopsickle_write writes of
- *   some description for which the arrays are long enough; ordinary-same: hopsickle_read then leaves the
+ * - accepted_exactly: hopsickle_read_strict accepts exactly the octets that hopsickle_write writes of
+ *   some description for which the arrays are long enough; ordinary_same: hopsickle_read then leaves the
  *   same in all four arrays.
- * - write-same, same-write: descriptions that are written as the same octets, in whichever forms, are
- *   equal; and equal ones are written as the same octets in one form. handed-back-same: every
+ * - write_same, same_write: descriptions that are written as the same octets, in whichever forms, are
+ *   equal; and equal ones are written as the same octets in one form. handed_back_same: every
  *   description that was written as the octets equals what hopsickle_read_strict hands back of them.
- * - write-sized, size-enough: hopsickle_size answers the size that hopsickle_write writes, and a buffer
+ * - write_sized, size_enough: hopsickle_size answers the size that hopsickle_write writes, and a buffer
  *   of that size is enough.
  *
  * An array is lent as a pointer and the number of its elements. The two arrays of a store of data sets
@@ -273,7 +273,7 @@ size_t hopsickle_read_strict(const uint8_t *frame, size_t frame_len, size_t chan
  * values; *written is how many, 0 where refused.
  * A count from -4194303 to 4194303 whose scale factor has a magnitude from 2^-30 to 2^30 comes back
  * from its value by hopsickle_write_values with the same scale factor: proved of the two calls
- * (values-written in crates/values_agreement/specs/Flat.antt). Past these bounds a count may be lost.
+ * (values_written in Flat.antt of crates/values_agreement). Past these bounds a count may be lost.
  * Refused: 8; then 7 for counts or values.
  */
 size_t hopsickle_values(const float *scales, size_t channels, uint16_t no_asdu,

@@ -78,21 +78,21 @@ module _ (s : List ℕ) (at : ℕ) where
     unfolding head_at
     head_short h = simp (lt-leb, lt-ltb)
 
-    pub head-eighty : get_or s (at + 1) 0 ≡ 128 → head_at s at ≡ refused bad_length at
+    pub head_eighty : get_or s (at + 1) 0 ≡ 128 → head_at s at ≡ refused bad_length at
     unfolding head_at
-    head-eighty h = simp (lt-leb, h)
+    head_eighty h = simp (lt-leb, h)
 
-    pub head-above : 132 ≤ get_or s (at + 1) 0 → head_at s at ≡ refused bad_length at
+    pub head_above : 132 ≤ get_or s (at + 1) 0 → head_at s at ≡ refused bad_length at
     unfolding head_at
-    head-above h =
+    head_above h =
         let k : 128 ≤ get_or s (at + 1) 0 = omega arith in
         let e : get_or s (at + 1) 0 ≡ 128 → ⊥ = λ e. omega arith in
         simp (lt-leb, le-ltb, ne_eqb, le-leb)
 
     module _ (low : 128 < get_or s (at + 1) 0) (high : get_or s (at + 1) 0 < 132) where
-      pub head-cut : length s < at + 2 + (get_or s (at + 1) 0 - 128) → head_at s at ≡ refused ends_too_soon at
+      pub head_cut : length s < at + 2 + (get_or s (at + 1) 0 - 128) → head_at s at ≡ refused ends_too_soon at
       unfolding head_at
-      head-cut h =
+      head_cut h =
           let k : 128 ≤ get_or s (at + 1) 0 = omega arith in
           let e : get_or s (at + 1) 0 ≡ 128 → ⊥ = λ e. omega arith in
           simp (lt-leb, le-ltb, ne_eqb, lt-ltb)
@@ -113,11 +113,11 @@ module _ (s : List ℕ) (bytes : Bytes s) (at : ℕ) where
   head_within {h} {end} e =
       split (length s) (at + 1) (λ a. no (head_none s at a)) (λ a.
       split 128 (get_or s (at + 1) 0) (λ b.
-      split (get_or s (at + 1) 0) 128 (λ d. no (head-eighty s at a (omega arith))) (λ d.
-      split 132 (get_or s (at + 1) 0) (λ f. no (head-above s at a f)) (λ f.
+      split (get_or s (at + 1) 0) 128 (λ d. no (head_eighty s at a (omega arith))) (λ d.
+      split 132 (get_or s (at + 1) 0) (λ f. no (head_above s at a f)) (λ f.
       split (at + 2 + (get_or s (at + 1) 0 - 128)) (length s)
       (λ g. yes (head_long s at a d f g) (g, omega (arith, be_lt s bytes (at + 2) (get_or s (at + 1) 0 - 128), pow_three {n = get_or s (at + 1) 0 - 128} (omega arith))))
-      (λ g. no (head-cut s at a d f g)))))
+      (λ g. no (head_cut s at a d f g)))))
       (λ b. yes (head_short s at a b) (omega arith)))
     where
       no : {k p : ℕ} → head_at s at ≡ refused k p → (end ≤ length s) × (h.len < 16777216)
@@ -165,34 +165,34 @@ module _ (w : ℕ) (s : List ℕ) (at n : ℕ) where
     number_cut h = simp (lt-leb, lt-ltb)
 
     module _ (all : at + n ≤ length s) where
-      pub number-plain : n ≤ w → get_or s at 0 < 128 → number_at w s at n ≡ got (be_at s at n) (at + n)
+      pub number_plain : n ≤ w → get_or s at 0 < 128 → number_at w s at n ≡ got (be_at s at n) (at + n)
       unfolding number_at
-      number-plain h p = simp (lt-leb, le-ltb, le-leb, add-zero)
+      number_plain h p = simp (lt-leb, le-ltb, le-leb, add-zero)
 
-      pub number-signed : n ≤ w → 128 ≤ get_or s at 0 → number_at w s at n ≡ got (be_at s at n + (256 ^ w - 256 ^ n)) (at + n)
+      pub number_signed : n ≤ w → 128 ≤ get_or s at 0 → number_at w s at n ≡ got (be_at s at n + (256 ^ w - 256 ^ n)) (at + n)
       unfolding number_at
-      number-signed h p = simp (lt-leb, le-ltb, le-leb)
+      number_signed h p = simp (lt-leb, le-ltb, le-leb)
 
-      pub number-long : w + 1 < n → number_at w s at n ≡ refused integer_too_long at
+      pub number_long : w + 1 < n → number_at w s at n ≡ refused integer_too_long at
       unfolding number_at
-      number-long h = let k : w < n = omega arith in simp (lt-leb, le-ltb, lt-ltb)
+      number_long h = let k : w < n = omega arith in simp (lt-leb, le-ltb, lt-ltb)
 
       module _ (more : n ≡ w + 1) where
-        pub number-full : 0 < get_or s at 0 → number_at w s at n ≡ refused integer_too_long at
+        pub number_full : 0 < get_or s at 0 → number_at w s at n ≡ refused integer_too_long at
         unfolding number_at
-        number-full h = let k : w < n = omega arith in let l : n ≤ w + 1 = omega arith in simp (lt-leb, le-ltb, lt-ltb)
+        number_full h = let k : w < n = omega arith in let l : n ≤ w + 1 = omega arith in simp (lt-leb, le-ltb, lt-ltb)
 
-        pub number-idle : get_or s at 0 ≡ 0 → get_or s (at + 1) 0 < 128 → number_at w s at n ≡ refused integer_too_long at
+        pub number_idle : get_or s at 0 ≡ 0 → get_or s (at + 1) 0 < 128 → number_at w s at n ≡ refused integer_too_long at
         unfolding number_at
-        number-idle h p =
+        number_idle h p =
             let k : w < n = omega arith in
             let l : n ≤ w + 1 = omega arith in
             let z : get_or s at 0 ≤ 0 = omega arith in
             simp (lt-leb, le-ltb, lt-ltb)
 
-        pub number-front : get_or s at 0 ≡ 0 → 128 ≤ get_or s (at + 1) 0 → number_at w s at n ≡ got (be_at s (at + 1) w) (at + n)
+        pub number_front : get_or s at 0 ≡ 0 → 128 ≤ get_or s (at + 1) 0 → number_at w s at n ≡ got (be_at s (at + 1) w) (at + n)
         unfolding number_at
-        number-front h p =
+        number_front h p =
             let k : w < n = omega arith in
             let l : n ≤ w + 1 = omega arith in
             let z : get_or s at 0 ≤ 0 = omega arith in
@@ -260,16 +260,16 @@ number_lt w s h at n =
     split (at + n) (length s) (λ b.
     split n w (λ d.
     split 128 (get_or s at 0)
-    (λ e. rw (number-signed w s at n a b d e) (below (fill_lt (be_lt s h at n) d)))
-    (λ e. rw (number-plain w s at n a b d e) (below (plain d))))
+    (λ e. rw (number_signed w s at n a b d e) (below (fill_lt (be_lt s h at n) d)))
+    (λ e. rw (number_plain w s at n a b d e) (below (plain d))))
     (λ d.
     split n (w + 1) (λ e.
     split (get_or s at 0) 0 (λ f.
     split 128 (get_or s (at + 1) 0)
-    (λ g. rw (number-front w s at n a b (omega arith) (omega arith) g) (below (be_lt s h (at + 1) w)))
-    (λ g. rw (number-idle w s at n a b (omega arith) (omega arith) g) unread))
-    (λ f. rw (number-full w s at n a b (omega arith) f) unread))
-    (λ e. rw (number-long w s at n a b e) unread)))
+    (λ g. rw (number_front w s at n a b (omega arith) (omega arith) g) (below (be_lt s h (at + 1) w)))
+    (λ g. rw (number_idle w s at n a b (omega arith) (omega arith) g) unread))
+    (λ f. rw (number_full w s at n a b (omega arith) f) unread))
+    (λ e. rw (number_long w s at n a b e) unread)))
     (λ b. rw (number_cut w s at n a b) unread))
   where
     plain : n ≤ w → be_at s at n < 256 ^ w

@@ -86,13 +86,13 @@ module _ (a b : ℕ) (s : List ℕ) (k o : List ℕ) where
   header_refused j p e = record { number = rw e; place = rw e; numbers = rw e; octets = rw e }
 
   module _ (h : Header) (at : ℕ) (e : header_at s ≡ got h at) where
-    pub header-no-numbers : a < header_numbers → ReadsHeader (flat_header a b s) k k o o no_room 0
+    pub header_no_numbers : a < header_numbers → ReadsHeader (flat_header a b s) k k o o no_room 0
     unfolding flat_header
-    header-no-numbers l = let g = lt-ltb a header_numbers l in record { number = rw (e, g); place = rw (e, g); numbers = rw (e, g); octets = rw (e, g) }
+    header_no_numbers l = let g = lt-ltb a header_numbers l in record { number = rw (e, g); place = rw (e, g); numbers = rw (e, g); octets = rw (e, g) }
 
-    pub header-no-octets : header_numbers ≤ a → b < header_octets → ReadsHeader (flat_header a b s) k k o o no_room 0
+    pub header_no_octets : header_numbers ≤ a → b < header_octets → ReadsHeader (flat_header a b s) k k o o no_room 0
     unfolding flat_header
-    header-no-octets i l =
+    header_no_octets i l =
         let f = le-ltb a header_numbers i in
         let g = lt-ltb b header_octets l in
         record { number = rw (e, f, g); place = rw (e, f, g); numbers = rw (e, f, g); octets = rw (e, f, g) }
@@ -166,8 +166,8 @@ module _ (k : List ℕ) (f : List Float) (rev : ℕ) (scales : List Float) where
         go (refusal n p) = (refl, refl)
         go (accepted l) = (refl, refl)
 
-    pub adds-refused : {z : Refusal} → x ≡ added.Refused z → AddsThese k' f' z.number z.place
-    adds-refused {z} w = adds (refusal z.number z.place) (ap told_addition w)
+    pub adds_refused : {z : Refusal} → x ≡ added.Refused z → AddsThese k' f' z.number z.place
+    adds_refused {z} w = adds (refusal z.number z.place) (ap told_addition w)
 
-    pub adds-taken : {m : ℕ} → x ≡ added.Taken m → AddsThese k' f' 0 m
-    adds-taken {m} w = adds (accepted m) (ap told_addition w)
+    pub adds_taken : {m : ℕ} → x ≡ added.Taken m → AddsThese k' f' 0 m
+    adds_taken {m} w = adds (accepted m) (ap told_addition w)

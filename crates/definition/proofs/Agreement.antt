@@ -57,11 +57,11 @@ strictly form n a b s d l e = on_read (read_frame n s) refl e
     no_way : {P : Type 0} (k at : ℕ) → ◌≡◌ {A = Answer (Description × ℕ)} (refusal k at) (read_as d l) → P
     no_way k at e = let z : ◌≡◌ {A = ℕ} 0 1 = cc in absurd (omega arith)
 
-    on-differ : (d' : Description) (l' : ℕ) (o : Option ℕ) → differ 0 s (frame_octets form d') ≡ o
+    on_differ : (d' : Description) (l' : ℕ) (o : Option ℕ) → differ 0 s (frame_octets form d') ≡ o
         → read_frame n s ≡ read_as d' l' → length d'.asdus * n ≤ a → length d'.asdus * n ≤ b → writable form d' ≡ true
         → unless_at o (read_as d' l') ≡ read_as d l → Strictly form n a b s d l
-    on-differ d' l' (some at) f r ha hb w e = no_way 6 at e
-    on-differ d' l' none f r ha hb w e =
+    on_differ d' l' (some at) f r ha hb w e = no_way 6 at e
+    on_differ d' l' none f r ha hb w e =
         let x : d' ≡ d = (same_read d' d l' l e).0 in
         let y : read_frame n s ≡ read_as d l = r ∙ e in
         record { ordinary = y; counts = rw (← x) ha; qualities = rw (← x) hb; fits = rw (← x) w; same = rw (← x) (sym (differ_same 0 s (frame_octets form d') f)) }
@@ -70,7 +70,7 @@ strictly form n a b s d l e = on_read (read_frame n s) refl e
         → read_frame n s ≡ read_as d' l' → length d'.asdus * n ≤ a → length d'.asdus * n ≤ b
         → cond t (unless_at (differ 0 s (frame_octets form d')) (read_as d' l')) (refusal not_as_written 0) ≡ read_as d l → Strictly form n a b s d l
     on_fits d' l' false f r ha hb e = no_way 6 0 e
-    on_fits d' l' true f r ha hb e = on-differ d' l' (differ 0 s (frame_octets form d')) refl r ha hb f e
+    on_fits d' l' true f r ha hb e = on_differ d' l' (differ 0 s (frame_octets form d')) refl r ha hb f e
 
     on_room : (d' : Description) (l' : ℕ) (t u : Bool) → ltb a (length d'.asdus * n) ≡ t → ltb b (length d'.asdus * n) ≡ u
         → read_frame n s ≡ read_as d' l'

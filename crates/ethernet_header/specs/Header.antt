@@ -99,11 +99,11 @@ module _ (s : List ℕ) where
   header_untagged e = rw e
 
   module _ (at : ℕ) (v : Option (ℕ × ℕ)) where
-    pub from-short : length s < at + 6 → header_from s at v ≡ refused ends_too_soon (length s)
+    pub from_short : length s < at + 6 → header_from s at v ≡ refused ends_too_soon (length s)
     unfolding header_from
-    from-short h = rw (lt-ltb (length s) (at + 6))
+    from_short h = rw (lt-ltb (length s) (at + 6))
 
-    pub from-yes : at + 6 ≤ length s → header_from s at v ≡ got (record {
+    pub from_yes : at + 6 ≤ length s → header_from s at v ≡ got (record {
       destination = take 6 s;
       source = take 6 (drop 6 s);
       vlan = v;
@@ -112,11 +112,11 @@ module _ (s : List ℕ) where
       len = be_at s (at + 4) 2;
     }) (at + 10)
     unfolding header_from
-    from-yes h = rw (le-ltb (length s) (at + 6))
+    from_yes h = rw (le-ltb (length s) (at + 6))
 
   pub header_no : (at : ℕ) (v : Option (ℕ × ℕ)) → header_at s ≡ header_from s at v → length s < at + 6 → header_read (header_at s) ≡ no_header ends_too_soon (length s)
   unfolding header_read
-  header_no at v e h = rw (e, from-short at v h)
+  header_no at v e h = rw (e, from_short at v h)
 
   pub header_yes : (at : ℕ) (v : Vlan) → at + 6 ≤ length s → record {
     outcome = Next (record { at = at + 10 });
@@ -130,20 +130,20 @@ module _ (s : List ℕ) where
     };
   } ≡ header_read (header_from s at (tag_of v))
   unfolding header_read header_record
-  header_yes at v h = rw (from-yes at (tag_of v) h, vlan_back v)
+  header_yes at v h = rw (from_yes at (tag_of v) h, vlan_back v)
 
   module _ (bytes : Bytes s) where
     pub tagged_is : pair_at s 12 0x81 0x00 ≡ tagged s
     unfolding tagged
     tagged_is = pair_number s 12 0x81 0x00 (lit< tt) (bytes 13)
 
-    pub smv-tagged : tagged s ≡ true → pair_at s 16 0x88 0xBA ≡ is_smv_frame s
+    pub smv_tagged : tagged s ≡ true → pair_at s 16 0x88 0xBA ≡ is_smv_frame s
     unfolding is_smv_frame
-    smv-tagged e = rw e (pair_number s 16 0x88 0xBA (lit< tt) (bytes 17))
+    smv_tagged e = rw e (pair_number s 16 0x88 0xBA (lit< tt) (bytes 17))
 
-    pub smv-untagged : tagged s ≡ false → pair_at s 12 0x88 0xBA ≡ is_smv_frame s
+    pub smv_untagged : tagged s ≡ false → pair_at s 12 0x88 0xBA ≡ is_smv_frame s
     unfolding is_smv_frame
-    smv-untagged e = rw e (pair_number s 12 0x88 0xBA (lit< tt) (bytes 13))
+    smv_untagged e = rw e (pair_number s 12 0x88 0xBA (lit< tt) (bytes 13))
 
   pub simulation_tagged : tagged s ≡ true → simulation_of s ≡ first_bit s 22
   unfolding simulation_of

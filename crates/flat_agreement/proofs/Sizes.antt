@@ -56,9 +56,9 @@ module _ (n : ℕ) (k o : List ℕ) (cs : List ℤ) (qs : List ℕ) (long : Samp
     same_size : length (frame_octets form (flat_unsampled n k o)) ≡ length (frame_octets form (flat_description n k o cs qs))
     same_size = rw (← zeroed_is) (frame_length form (flat_description n k o cs qs))
 
-    same-writable : writable form (flat_description n k o cs qs) ≡ and (writable form (flat_unsampled n k o)) fine
+    same_writable : writable form (flat_description n k o cs qs) ≡ and (writable form (flat_unsampled n k o)) fine
     unfolding fine
-    same-writable = writable_is form (flat_description n k o cs qs) ∙ rw (zeroed_is, (described_samples n k o cs qs long).1)
+    same_writable = writable_is form (flat_description n k o cs qs) ∙ rw (zeroed_is, (described_samples n k o cs qs long).1)
 
     -- what the writer writes has that size
     pub encode_sized : (room : ℕ) {size : ℕ} → flat_encode form n k o cs qs room ≡ accepted size → flat_size form n k o ≡ accepted size
@@ -76,7 +76,7 @@ module _ (n : ℕ) (k o : List ℕ) (cs : List ℤ) (qs : List ℕ) (long : Samp
           counts_long = omega arith;
           qualities_long = omega arith;
           stood = t.stood;
-          writes = (and_both _ _ (sym same-writable ∙ t.writes)).0;
+          writes = (and_both _ _ (sym same_writable ∙ t.writes)).0;
         })
         (omega arith)
         ∙ ap accepted (same_size ∙ sym w)
@@ -102,7 +102,7 @@ module _ (n : ℕ) (k o : List ℕ) (cs : List ℤ) (qs : List ℕ) (long : Samp
               counts_long = long.counts;
               qualities_long = long.qualities;
               stood = t.stood;
-              writes = same-writable ∙ rw (q, and_true) t.writes;
+              writes = same_writable ∙ rw (q, and_true) t.writes;
             })
             (omega (arith, same_size))
             ∙ ap accepted (sym same_size ∙ sym w)

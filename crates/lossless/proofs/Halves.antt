@@ -56,22 +56,22 @@ module _ {n a b L : ℕ} (g : Given n a b L) where
 
     module _ (q : ℕ) (second : Near (q * (a * L)) (r * b * L)) where
       -- the second rounding, without L
-      second-over : q * a * 2 ^ 24 ≤ r * b * 2 ^ 24 + r * b
-      second-over = le_of_mul-le-mul_right {k = L} (omega (arith, second.over)) above_zero
+      second_over : q * a * 2 ^ 24 ≤ r * b * 2 ^ 24 + r * b
+      second_over = le_of_mul-le-mul_right {k = L} (omega (arith, second.over)) above_zero
 
-      second-under : r * b * 2 ^ 24 ≤ q * a * 2 ^ 24 + r * b
-      second-under = le_of_mul-le-mul_right {k = L} (omega (arith, second.under)) above_zero
+      second_under : r * b * 2 ^ 24 ≤ q * a * 2 ^ 24 + r * b
+      second_under = le_of_mul-le-mul_right {k = L} (omega (arith, second.under)) above_zero
 
       -- both roundings: n is moved by at most 2 / 2^24 + 1 / 2^48 of itself
-      both-over : q * 2 ^ 48 ≤ n * L * 2 ^ 48 + n * L * twice
-      both-over = le_of_mul-le-mul_right {k = a} (omega (arith, second-over, first.over)) scale_above
+      both_over : q * 2 ^ 48 ≤ n * L * 2 ^ 48 + n * L * twice
+      both_over = le_of_mul-le-mul_right {k = a} (omega (arith, second_over, first.over)) scale_above
 
       both_under : n * L * 2 ^ 48 ≤ q * 2 ^ 48 + n * L * twice
-      both_under = le_of_mul-le-mul_right {k = a} (omega (arith, second-under, first.over, first.under)) scale_above
+      both_under = le_of_mul-le-mul_right {k = a} (omega (arith, second_under, first.over, first.under)) scale_above
 
       -- so by less than a half
       pub from_above : q * 2 < n * L * 2 + L
-      from_above = omega (arith, both-over, half)
+      from_above = omega (arith, both_over, half)
 
       pub from_below : n * L * 2 ≤ q * 2 + L
       from_below = omega (arith, both_under, half)

@@ -37,12 +37,12 @@ unfolding div
 quotient_is nan s g t m e P h = absurd h
 quotient_is (inf u) s g t m e P h = absurd h
 quotient_is (fin u k i) s g t m e P h =
-    rw (ne_eqb m 0 (not-zero m (up e) P), h.0)
+    rw (ne_eqb m 0 (not_zero m (up e) P), h.0)
     (round_same binary32 (unlike s t) (k * up i * down e) (m * up e * down i) (g * down e) (m * up e * 2 ^ 149) (mul-pos P (down_pos i)) (mul-pos P (pow_pos 149))
     (cross (k * up i) (m * up e) (down e) g (down i) (2 ^ 149) h.1))
   where
-    not-zero : (m u : ℕ) → 0 < m * u → m ≡ 0 → ⊥
-    not-zero m u P z = let q : m * u ≡ 0 = ap (λ (i : ℕ). i * u) z ∙ zero-mul u in omega (arith, q, P)
+    not_zero : (m u : ℕ) → 0 < m * u → m ≡ 0 → ⊥
+    not_zero m u P z = let q : m * u ≡ 0 = ap (λ (i : ℕ). i * u) z ∙ zero-mul u in omega (arith, q, P)
 
     cross : (x a b g d L : ℕ) → x * L ≡ g * d → x * b * (a * L) ≡ g * b * (a * d)
     cross x a b g d L p = let q : x * L * (b * a) ≡ g * d * (b * a) = ap (λ (i : ℕ). i * (b * a)) p in omega (arith, q)

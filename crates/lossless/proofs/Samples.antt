@@ -48,11 +48,11 @@ pub samples_lossless : (n : ℕ) (scales : List Float) (counts : List ℤ) (m : 
 unfolding counts_of_values values_of
 samples_lossless n scales counts m rest none enough within =
     counts_are _ counts m enough
-    (λ k h. ap (λ (v : Float). count_of v (get_or scales (k % n) nan)) (value-at k h)
+    (λ k h. ap (λ (v : Float). count_of v (get_or scales (k % n) nan)) (value_at k h)
     ∙ lossless_to (get_or counts k (pos 0)) (get_or scales (k % n) nan) (within.each_count k h) (within.each_scale (k % n) (channel_below n m k none h)))
   where
     value : ℕ → Float
     value k = value_of (get_or counts k (pos 0)) (get_or scales (k % n) nan)
 
-    value-at : (k : ℕ) → k < m → get_or (up_to m value ++ rest) k nan ≡ value k
-    value-at k h = get_or-append (up_to m value) rest nan k (omega (arith, length-up_to value m, h)) ∙ get_or-up_to value m k nan h
+    value_at : (k : ℕ) → k < m → get_or (up_to m value ++ rest) k nan ≡ value k
+    value_at k h = get_or-append (up_to m value) rest nan k (omega (arith, length-up_to value m, h)) ∙ get_or-up_to value m k nan h

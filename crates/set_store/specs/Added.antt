@@ -38,26 +38,26 @@ module _ (rev : ℕ) (x : SavDataSetConfig) (k : List ℕ) (f : List Float) wher
     unfolding add
     add_low h = rw (le-ltb _ _ few, above, h)
 
-    pub added-low : above_all k rev ≡ false → AddedTo rev x k f (addition.Refused (record { number = set_not_added; place = 0 })) k f
-    added-low h = added_not set_not_added (add_low h)
+    pub added_low : above_all k rev ≡ false → AddedTo rev x k f (addition.Refused (record { number = set_not_added; place = 0 })) k f
+    added_low h = added_not set_not_added (add_low h)
 
     module _ (high : above_all k rev ≡ true) where
-      add-full : max_sets ≤ held_in k → store_add k f rev x ≡ refusal set_not_added 0
+      add_full : max_sets ≤ held_in k → store_add k f rev x ≡ refusal set_not_added 0
       unfolding add
-      add-full h = let n : max_sets ≤ length (store_of k f) = omega (arith, store_number k f) in rw (le-ltb _ _ few, above, high, le-leb _ _ n)
+      add_full h = let n : max_sets ≤ length (store_of k f) = omega (arith, store_number k f) in rw (le-ltb _ _ few, above, high, le-leb _ _ n)
 
       pub added_full : max_sets ≤ held_in k → AddedTo rev x k f (addition.Refused (record { number = set_not_added; place = 0 })) k f
-      added_full h = added_not set_not_added (add-full h)
+      added_full h = added_not set_not_added (add_full h)
 
-      add-taken : held_in k < max_sets → store_add k f rev x ≡ accepted (store_of k f ++ ((rev, x) ∷ []))
+      add_taken : held_in k < max_sets → store_add k f rev x ≡ accepted (store_of k f ++ ((rev, x) ∷ []))
       unfolding add
-      add-taken h = let n : length (store_of k f) < max_sets = omega (arith, store_number k f) in rw (le-ltb _ _ few, above, high, lt-leb _ _ n)
+      add_taken h = let n : length (store_of k f) < max_sets = omega (arith, store_number k f) in rw (le-ltb _ _ few, above, high, lt-leb _ _ n)
 
-      pub added-taken : {n : ℕ} → n ≡ held_in k → n < max_sets → {k' : List ℕ} {f' : List Float}
+      pub added_taken : {n : ℕ} → n ≡ held_in k → n < max_sets → {k' : List ℕ} {f' : List Float}
           → k' ≡ sets (sets k 0 ((n + 1) ∷ [])) (1 + n * 2) (rev ∷ x.channels ∷ [])
           → f' ≡ sets f (n * max_channels) x.scale_factor
           → AddedTo rev x k f (addition.Taken (n + 1)) k' f'
-      added-taken {n} is less e g =
+      added_taken {n} is less e g =
           let h : held_in k < max_sets = rw is at less in
           let m : n + 1 ≡ length (store_of k f ++ ((rev, x) ∷ [])) = omega (arith, is, length-append (store_of k f) ((rev, x) ∷ []), store_number k f) in
-          record { told = ap accepted m ∙ rw (add-taken h); numbers = e ∙ rw (is, add-taken h); scales = g ∙ rw (is, add-taken h) }
+          record { told = ap accepted m ∙ rw (add_taken h); numbers = e ∙ rw (is, add_taken h); scales = g ∙ rw (is, add_taken h) }

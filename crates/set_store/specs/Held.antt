@@ -40,13 +40,13 @@ module _ (k : List ℕ) (rev n i : ℕ) where
     one_left : n - i ≡ suc (n - (i + 1))
     one_left = omega arith
 
-    pub above-stop : rev ≤ nth k (1 + i * 2) → above_from k rev i (n - i) ≡ false
+    pub above_stop : rev ≤ nth k (1 + i * 2) → above_from k rev i (n - i) ≡ false
     unfolding above_from and
-    above-stop h = rw (one_left, le-ltb _ _ h)
+    above_stop h = rw (one_left, le-ltb _ _ h)
 
-    pub above-next : nth k (1 + i * 2) < rev → above_from k rev i (n - i) ≡ above_from k rev (i + 1) (n - (i + 1))
+    pub above_next : nth k (1 + i * 2) < rev → above_from k rev i (n - i) ≡ above_from k rev (i + 1) (n - (i + 1))
     unfolding above_from and
-    above-next h = rw (one_left, lt-ltb _ _ h, add-one)
+    above_next h = rw (one_left, lt-ltb _ _ h, add-one)
 
 -- ---- which is under a confRev
 
@@ -65,13 +65,13 @@ module _ (k : List ℕ) (rev n i : ℕ) where
   position_end h = let e : n - i ≡ 0 = omega arith in rw e
 
   module _ (less : i < n) where
-    pub position-stop : nth k (1 + i * 2) ≡ rev → position_from k rev i (n - i) ≡ i
+    pub position_stop : nth k (1 + i * 2) ≡ rev → position_from k rev i (n - i) ≡ i
     unfolding position_from
-    position-stop h = rw (one_left k rev n i less, eq-eqb _ _ h)
+    position_stop h = rw (one_left k rev n i less, eq-eqb _ _ h)
 
-    pub position-next : (nth k (1 + i * 2) ≡ rev → ⊥) → position_from k rev i (n - i) ≡ position_from k rev (i + 1) (n - (i + 1))
+    pub position_next : (nth k (1 + i * 2) ≡ rev → ⊥) → position_from k rev i (n - i) ≡ position_from k rev (i + 1) (n - (i + 1))
     unfolding position_from
-    position-next h = rw (one_left k rev n i less, ne_eqb _ _ h, add-one)
+    position_next h = rw (one_left k rev n i less, ne_eqb _ _ h, add-one)
 
 module _ (k : List ℕ) (f : List Float) (rev : ℕ) where
   found_from : (i m : ℕ) → position_from k rev i m < i + m → find (sets_from k f i m) rev ≡ some (set_at k f (position_from k rev i m)).1

@@ -3,7 +3,7 @@ use Prim.Native.Nat.{ℕ, ◌-◌}
 use mathlib.Core.Path.{◌≡◌, sym, ap, ◌∙◌}
 use native.Mathlib.Omega.{arith}
 use Rattle.data_sets.specs.DataSets.{held_in}
-use Rattle.set_store.specs.Held.{above_from, above_end, above-stop, above-next}
+use Rattle.set_store.specs.Held.{above_from, above_end, above_stop, above_next}
 use Rattle.set_store.proofs.is_higher.Goals as goal
 
 pub loop-i-init : goal.loop-i-init
@@ -23,7 +23,7 @@ pub bounds-numbers-i : goal.bounds-numbers-i
 bounds-numbers-i c = omega (arith, c.held-n.ensures)
 
 pub returns-then-conf_rev-numbers : goal.returns-then-conf_rev-numbers
-returns-then-conf_rev-numbers c = sym (c.loop-i.invariant.1 ∙ above-stop _ _ _ _ c.loop-i-test.true c.if-conf_rev-numbers.true)
+returns-then-conf_rev-numbers c = sym (c.loop-i.invariant.1 ∙ above_stop _ _ _ _ c.loop-i-test.true c.if-conf_rev-numbers.true)
 
 pub overflow_add-i-in-loop-i : goal.overflow_add-i-in-loop-i
 overflow_add-i-in-loop-i c = omega (arith, c.loop-i-test.true)
@@ -32,7 +32,7 @@ pub loop-i-smaller : goal.loop-i-smaller
 loop-i-smaller c = omega (arith, c.loop-i-test.true)
 
 pub loop-i-preserved : goal.loop-i-preserved
-loop-i-preserved c = (omega (arith, c.loop-i-test.true), c.loop-i.invariant.1 ∙ above-next _ _ _ _ c.loop-i-test.true c.if-conf_rev-numbers.false)
+loop-i-preserved c = (omega (arith, c.loop-i-test.true), c.loop-i.invariant.1 ∙ above_next _ _ _ _ c.loop-i-test.true c.if-conf_rev-numbers.false)
 
 pub returns : goal.returns
 returns c = sym (c.loop-i.invariant.1 ∙ above_end _ _ _ _ c.loop-i-test.false)
