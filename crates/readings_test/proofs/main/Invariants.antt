@@ -2,8 +2,5 @@
 use Rattle.std.proofs.Common.{◌-◌}
 use Rattle.readings_test.proofs.main.Given as goal
 
-abbrev pub invariant-loop-k : goal.invariant-loop-k
-invariant-loop-k l = Unit {0}
-
 abbrev pub decreases-loop-k : goal.decreases-loop-k
 decreases-loop-k l = 250000 - l.k
