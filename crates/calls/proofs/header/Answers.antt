@@ -13,11 +13,11 @@ returns-in_default c = rw (c.refusal-r.ensures, c.in_default.is)
 
 pub returns-then-numbers-lt-HEADER_NUMBERS : goal.returns-then-numbers-lt-HEADER_NUMBERS
 returns-then-numbers-lt-HEADER_NUMBERS c = let h = headed _ c.decode_ethernet_header-headed.ensures c.in-Next.is in
-    crosses.header-no-numbers _ _ _ _ _ h.value _ h.is c.if-numbers-lt-HEADER_NUMBERS.true
+    crosses.header_no_numbers _ _ _ _ _ h.value _ h.is c.if-numbers-lt-HEADER_NUMBERS.true
 
 pub returns-then-octets-lt-HEADER_OCTETS : goal.returns-then-octets-lt-HEADER_OCTETS
 returns-then-octets-lt-HEADER_OCTETS c = let h = headed _ c.decode_ethernet_header-headed.ensures c.in-Next.is in
-    crosses.header-no-octets _ _ _ _ _ h.value _ h.is c.if-numbers-lt-HEADER_NUMBERS.false c.if-octets-lt-HEADER_OCTETS.true
+    crosses.header_no_octets _ _ _ _ _ h.value _ h.is c.if-numbers-lt-HEADER_NUMBERS.false c.if-octets-lt-HEADER_OCTETS.true
 
 pub returns : goal.returns
 returns c = let h = headed _ c.decode_ethernet_header-headed.ensures c.in-Next.is in

@@ -8,8 +8,8 @@ returns-then-scales-gt-MAX_CHANNELS c = let a = c.args in
 
 pub returns-in-Refused : goal.returns-in-Refused
 returns-in-Refused c = let a = c.args in
-    crosses.adds-refused a.sets.now a.set_scales.now a.conf_rev a.scales.now c.data_set-set.ensures c.add_to-added.ensures c.in-Refused.is
+    crosses.adds_refused a.sets.now a.set_scales.now a.conf_rev a.scales.now c.data_set-set.ensures c.add_to-added.ensures c.in-Refused.is
 
 pub returns-in-Taken : goal.returns-in-Taken
 returns-in-Taken c = let a = c.args in
-    crosses.adds-taken a.sets.now a.set_scales.now a.conf_rev a.scales.now c.data_set-set.ensures c.add_to-added.ensures c.in-Taken.is
+    crosses.adds_taken a.sets.now a.set_scales.now a.conf_rev a.scales.now c.data_set-set.ensures c.add_to-added.ensures c.in-Taken.is
