@@ -8,14 +8,14 @@ use Rattle.flat_agreement.proofs.Theorems.{read_then_write}
 use Rattle.call_agreement.proofs.read_then_write.Goals as goal
 
 -- a number above 0 is not 0
-not-0 : {P : Type 0} (k : ℕ) → 0 < k → k ≡ 0 → P
-not-0 k h e = absurd (omega arith)
+not_0 : {P : Type 0} (k : ℕ) → 0 < k → k ≡ 0 → P
+not_0 k h e = absurd (omega arith)
 
 pub returns-then-first-gt0 : goal.returns-then-first-gt0
 returns-then-first-gt0 c = let a = c.args in
     let r = c.hopsickle_read_strict-first in
     let strict : StrictCall a.fixed a.channels a.s.now a.numbers.now r.new.numbers a.octets.now r.new.octets a.counts.now r.new.counts a.qualities.now r.new.qualities r.result r.new.place = record { meets = r.ensures } in
-    record { read = strict; write = λ e l. not-0 _ c.if-first-gt0.true e }
+    record { read = strict; write = λ e l. not_0 _ c.if-first-gt0.true e }
 
 pub returns : goal.returns
 returns c = let a = c.args in

@@ -13,14 +13,14 @@ use Rattle.flat_agreement.proofs.Theorems.{write_then_read}
 use Rattle.call_agreement.proofs.write_then_read.Goals as goal
 
 -- a number above 0 is not 0
-not-0 : {P : Type 0} (k : ℕ) → 0 < k → k ≡ 0 → P
-not-0 k h e = absurd (omega arith)
+not_0 : {P : Type 0} (k : ℕ) → 0 < k → k ≡ 0 → P
+not_0 k h e = absurd (omega arith)
 
 pub returns-then-first-gt0 : goal.returns-then-first-gt0
 returns-then-first-gt0 c = let a = c.args in
     let vw = c.hopsickle_write-first in
     let w : WriteCall a.fixed a.channels a.numbers.now a.octets.now a.counts.now a.qualities.now a.frame.now vw.new.frame vw.result vw.new.size = record { meets = vw.ensures } in
-    record { write = w; read = λ e room. not-0 _ c.if-first-gt0.true e }
+    record { write = w; read = λ e room. not_0 _ c.if-first-gt0.true e }
 
 pub slice_bounds-hopsickle_read_strict-end : goal.slice_bounds-hopsickle_read_strict-end
 slice_bounds-hopsickle_read_strict-end c = let a = c.args in

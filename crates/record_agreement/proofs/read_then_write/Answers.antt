@@ -9,11 +9,11 @@ use Rattle.record_agreement.specs.Theorems.{read_then_write}
 use Rattle.record_agreement.proofs.read_then_write.Goals as goal
 
 -- a number above 0 is not 0
-not-0 : {P : Type 0} (k : ℕ) → 0 < k → k ≡ 0 → P
-not-0 k h e = absurd (omega arith)
+not_0 : {P : Type 0} (k : ℕ) → 0 < k → k ≡ 0 → P
+not_0 k h e = absurd (omega arith)
 
 pub returns-then-read-gt0 : goal.returns-then-read-gt0
-returns-then-read-gt0 c = record { read = record { meets = c.read_strict-read.ensures }; write = λ e l. not-0 _ c.if-read-gt0.true e }
+returns-then-read-gt0 c = record { read = record { meets = c.read_strict-read.ensures }; write = λ e l. not_0 _ c.if-read-gt0.true e }
 
 pub returns : goal.returns
 returns c = let a = c.args in

@@ -11,10 +11,10 @@ use Rattle.definition.specs.Frame.{Count, All}
 use Rattle.definition.proofs.Sound.{all_append}
 use Rattle.record_agreement.proofs.widths.counts.Goals as goal
 
-of-32-bits : (z : ℤ) → mag z < 2147483648 → Count z
+of_32_bits : (z : ℤ) → mag z < 2147483648 → Count z
 unfolding Count
-of-32-bits (pos n) h = h
-of-32-bits (negsuc n) h = h
+of_32_bits (pos n) h = h
+of_32_bits (negsuc n) h = h
 
 none_yet : (l : mathlib.Core.List.List ℤ) → All Count (take 0 l)
 unfolding All
@@ -24,7 +24,7 @@ one_more : (l : mathlib.Core.List.List ℤ) (i : ℕ) → i < length l → All C
 unfolding All
 one_more l i h a m =
     let e : i + 1 ≡ suc i = omega arith in
-    rw (e, take-suc l i (pos 0) h) (all_append Count (take i l) (get_or l i (pos 0) ∷ []) a (of-32-bits (get_or l i (pos 0)) m, tt))
+    rw (e, take-suc l i (pos 0) h) (all_append Count (take i l) (get_or l i (pos 0) ∷ []) a (of_32_bits (get_or l i (pos 0)) m, tt))
 
 pub loop-i-init : goal.loop-i-init
 loop-i-init c = (omega arith, none_yet c.args.l.now)
