@@ -1,7 +1,6 @@
 -- Each turn passes one record.
 use mathlib.Core.Path.{◌≡◌}
 use Prim.Native.Nat.{◌≤◌, ◌-◌}
-use borrow.Author.Rules.{rules}
 use lib.ListN.{length}
 use Rattle.replay.proofs.description.asdus.Given as goal
 

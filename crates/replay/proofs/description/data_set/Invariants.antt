@@ -1,7 +1,6 @@
 -- Each turn takes one scale factor.
 use mathlib.Core.Path.{◌≡◌}
 use Prim.Native.Nat.{◌≤◌, ◌-◌}
-use borrow.Author.Rules.{rules}
 use lib.ListN.{length}
 use Rattle.replay.proofs.description.data_set.Given as goal
 

@@ -1,7 +1,6 @@
 -- Each turn writes one element. The slice that is written keeps its length.
 use mathlib.Core.Path.{◌≡◌}
 use Prim.Native.Nat.{◌-◌}
-use borrow.Author.Rules.{rules}
 use lib.ListN.{length}
 use Rattle.replay.proofs.description.fill_words.Given as goal
 

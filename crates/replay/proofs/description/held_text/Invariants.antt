@@ -1,7 +1,6 @@
 -- Each turn takes one octet.
 use mathlib.Core.Path.{◌≡◌}
 use Prim.Native.Nat.{◌≤◌, ◌-◌}
-use borrow.Author.Rules.{rules}
 use lib.ListN.{length}
 use Rattle.replay.proofs.description.held_text.Given as goal
 

@@ -1,6 +1,5 @@
 -- Each turn passes one sample.
 use Prim.Native.Nat.{◌≤◌, ◌-◌}
-use borrow.Author.Rules.{rules}
 use Rattle.replay.proofs.description.marks.Given as goal
 
 abbrev pub invariant-loop-e : goal.invariant-loop-e

@@ -1,6 +1,5 @@
 -- Each turn passes one ASDU record.
 use Prim.Native.Nat.{◌≤◌, ◌-◌}
-use borrow.Author.Rules.{rules}
 use Rattle.replay.proofs.description.record_at.Given as goal
 
 abbrev pub invariant-loop-i : goal.invariant-loop-i

@@ -1,7 +1,6 @@
 -- Each turn writes one octet. The slice that is written keeps its length.
 use mathlib.Core.Path.{◌≡◌}
 use Prim.Native.Nat.{◌≤◌, ◌-◌}
-use borrow.Author.Rules.{rules}
 use lib.ListN.{length}
 use Rattle.replay.proofs.line.octets_of.Given as goal
 

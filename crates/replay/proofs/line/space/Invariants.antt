@@ -1,6 +1,5 @@
 -- Each turn passes one octet.
 use Prim.Native.Nat.{◌≤◌, ◌-◌}
-use borrow.Author.Rules.{rules}
 use lib.ListN.{length}
 use Rattle.replay.proofs.line.space.Given as goal
 

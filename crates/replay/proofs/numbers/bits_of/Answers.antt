@@ -5,7 +5,6 @@ use Prim.Native.Nat.{ℕ}
 use native.Mathlib.Omega.{arith}
 use lib.Dec.{T}
 use lib.Ieee.{Float, nan, inf, fin, is_nan, eq, ne}
-use borrow.Author.Rules.{rules}
 use Rattle.replay.proofs.numbers.bits_of.Goals as goal
 
 no_nan : (x : Float) → not (eq x x) ≡ false → T (not (is_nan x))

@@ -6,7 +6,6 @@ use lib.Dec.{T}
 use lib.Ieee.{binary32, nan_bits}
 use lib.Ieee.Bits.{nan_bits_above}
 use borrow.Author.Tests.{le-ltb}
-use borrow.Author.Rules.{rules}
 use Rattle.replay.proofs.numbers.float_of.Goals as goal
 
 no_nan : (n : ℕ) → n % 2147483648 ≤ 2139095040 → T (not (nan_bits binary32 n))

@@ -7,7 +7,6 @@ use lib.IntN.{pos, negsuc, ◌-ℤ◌}
 use mir.Syntax.{w32}
 use mir.Val.{to_z, SFits}
 use mir.ValLaws.{to_z_pos}
-use borrow.Author.Rules.{rules}
 use Rattle.replay.proofs.numbers.signed_of.Goals as goal
 
 minus_one : (n : ℕ) → negsuc 0 -ℤ pos n ≡ negsuc n

@@ -1,6 +1,5 @@
 -- Each turn passes one record.
 use Prim.Native.Nat.{◌≤◌, ◌-◌}
-use borrow.Author.Rules.{rules}
 use Rattle.replay.proofs.of_reading.all_utf8.Given as goal
 
 abbrev pub invariant-loop-k : goal.invariant-loop-k

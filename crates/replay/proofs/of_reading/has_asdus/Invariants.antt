@@ -1,6 +1,5 @@
 -- Each turn passes one ASDU.
 use Prim.Native.Nat.{◌≤◌, ◌-◌}
-use borrow.Author.Rules.{rules}
 use Rattle.replay.proofs.of_reading.has_asdus.Given as goal
 
 abbrev pub invariant-loop-k : goal.invariant-loop-k

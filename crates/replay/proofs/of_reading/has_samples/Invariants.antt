@@ -1,6 +1,5 @@
 -- Each turn passes one sample.
 use Prim.Native.Nat.{◌≤◌, ◌-◌, ◌*◌}
-use borrow.Author.Rules.{rules}
 use lib.ListN.{length}
 use Rattle.replay.proofs.of_reading.has_samples.Given as goal
 

@@ -1,6 +1,5 @@
 -- Each turn passes at least one octet.
 use Prim.Native.Nat.{◌≤◌, ◌-◌}
-use borrow.Author.Rules.{rules}
 use lib.ListN.{length}
 use Rattle.replay.proofs.text.has_lossy.Given as goal
 

@@ -1,6 +1,5 @@
 -- Each turn passes one ASDU record.
 use Prim.Native.Nat.{◌≤◌, ◌-◌}
-use borrow.Author.Rules.{rules}
 use Rattle.replay.proofs.writing_class.even.Given as goal
 
 abbrev pub invariant-loop-k : goal.invariant-loop-k
