@@ -7,9 +7,7 @@ use lib.IntN.{pos, negsuc, ◌-ℤ◌}
 use mir.Syntax.{w32}
 use mir.Val.{to_z, SFits}
 use mir.ValLaws.{to_z_pos}
-use borrow.Author.Rules.{rules}
-use Rattle.replay.proofs.numbers.signed_of.Statement.{statement}
-use Rattle.replay.proofs.numbers.signed_of.Tie as tie
+use Rattle.replay.proofs.numbers.signed_of.Goals as goal
 
 minus_one : (n : ℕ) → negsuc 0 -ℤ pos n ≡ negsuc n
 minus_one zero = refl
@@ -18,23 +16,5 @@ minus_one (suc n) = ap (λ (j : ℕ). negsuc (suc j)) (zero-add n)
 fits_below : (x : ℕ) → 2147483648 ≤ x → SFits w32 (negsuc 0 -ℤ to_z w32 (4294967295 - x))
 fits_below x h = rw (to_z_pos w32 (4294967295 - x) (omega arith), minus_one (4294967295 - x)) (record { sfits = omega arith })
 
-cast-result : tie.Need-overflow-cast-result
-cast-result c = search rules
-
-returns : tie.Need-returns
-returns c = search rules
-
-sub-below : tie.Need-overflow-sub-below
-sub-below c = search rules
-
-cast-below : tie.Need-overflow-cast-below
-cast-below c = search rules
-
-sub-result : tie.Need-overflow-sub-result
-sub-result c = fits_below c.before.args.word c.if1.false
-
-returns-2 : tie.Need-returns-2
-returns-2 c = search rules
-
-pub signed-of-spec : {M : Type 1} → statement M
-signed-of-spec = tie.close (tie.spec cast-result returns sub-below cast-below sub-result returns-2)
+pub overflow_sub-result : goal.overflow_sub-result
+overflow_sub-result c = fits_below c.args.word c.if-word-lt2147483648.false

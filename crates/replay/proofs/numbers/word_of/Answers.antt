@@ -3,7 +3,6 @@ use mathlib.Core.Path.{◌≡◌, sym, ap, ◌∙◌, subst⁻¹}
 use mathlib.Core.Bool.{true, false}
 use Prim.Native.Nat.{ℕ, suc, ◌-◌, ◌≤◌}
 use native.Mathlib.Omega.{arith}
-use borrow.Author.Rules.{rules}
 use borrow.Author.Tests.{ltb-true, le-ltb}
 use lib.Dec.{T}
 use lib.IntN.{ℤ, pos, negsuc, ◌-ℤ◌, nat_abs}
@@ -11,8 +10,7 @@ use lib.Signed.{lt_z, mag, non_neg}
 use mir.Syntax.{w32}
 use mir.Val.{to_z, of_z, SFits, Fits}
 use mir.ValLaws.{to_z-of_z}
-use Rattle.replay.proofs.numbers.word_of.Statement.{statement}
-use Rattle.replay.proofs.numbers.word_of.Tie as tie
+use Rattle.replay.proofs.numbers.word_of.Goals as goal
 
 -- -1 - z of a negative z
 minus : (z : ℤ) → lt_z z (pos 0) ≡ true → negsuc 0 -ℤ z ≡ pos (mag z)
@@ -38,37 +36,23 @@ positive : (z : ℤ) → SFits w32 z → lt_z z (pos 0) ≡ false → T (non_neg
 positive (pos n) f t = (tt, record { fits = omega (arith, f.sfits) })
 positive (negsuc n) f t = let z : ◌≡◌ {A = ℕ} 0 1 = cc in absurd (omega arith)
 
-sub-result : tie.Need-overflow-sub-result
-sub-result c =
-    let z = c.before.args.count in
-    let f = c.before.ranges.count in
-    subst⁻¹ (λ (x : ℤ). SFits w32 x) (ap (λ (x : ℤ). negsuc 0 -ℤ x) (to_z-of_z w32 z f) ∙ minus z (test z f c.if1.true)) (small z f)
+pub overflow_sub-result : goal.overflow_sub-result
+overflow_sub-result c = let z = c.args.count in
+    let f = c.ranges.count in
+    subst⁻¹ (λ (x : ℤ). SFits w32 x) (ap (λ (x : ℤ). negsuc 0 -ℤ x) (to_z-of_z w32 z f) ∙ minus z (test z f c.if-count-lt0.true)) (small z f)
 
-cast-result : tie.Need-overflow-cast-result
-cast-result c =
-    let z = c.before.args.count in
-    let f = c.before.ranges.count in
-    subst⁻¹ (λ (x : ℤ). T (non_neg x) × Fits w32 (nat_abs x)) (back z f (test z f c.if1.true)) (tt, record { fits = omega (arith, f.sfits) })
+pub overflow_cast-result : goal.overflow_cast-result
+overflow_cast-result c = let z = c.args.count in
+    let f = c.ranges.count in
+    subst⁻¹ (λ (x : ℤ). T (non_neg x) × Fits w32 (nat_abs x)) (back z f (test z f c.if-count-lt0.true)) (tt, record { fits = omega (arith, f.sfits) })
 
-sub-result-2 : tie.Need-overflow-sub-result-2
-sub-result-2 c =
-    let z = c.before.args.count in
-    let f = c.before.ranges.count in
-    omega (arith, f.sfits, ap nat_abs (back z f (test z f c.if1.true)))
+pub overflow_sub-result-then-count-lt0 : goal.overflow_sub-result-then-count-lt0
+overflow_sub-result-then-count-lt0 c = let z = c.args.count in
+    let f = c.ranges.count in
+    omega (arith, f.sfits, ap nat_abs (back z f (test z f c.if-count-lt0.true)))
 
-returns : tie.Need-returns
-returns c = search rules
-
-cast-result-2 : tie.Need-overflow-cast-result-2
-cast-result-2 c =
-    let z = c.before.args.count in
-    let f = c.before.ranges.count in
-    let p = positive z f (test z f c.if1.false) in
+pub overflow_cast-result-2 : goal.overflow_cast-result-2
+overflow_cast-result-2 c = let z = c.args.count in
+    let f = c.ranges.count in
+    let p = positive z f (test z f c.if-count-lt0.false) in
     subst⁻¹ (λ (x : ℤ). T (non_neg x) × Fits w32 (nat_abs x)) (to_z-of_z w32 z f) (p.0, p.1)
-
-returns-2 : tie.Need-returns-2
-returns-2 c = search rules
-
-pub word-of-spec : {M : Type 1} → statement M
-word-of-spec =
-    tie.close (tie.spec sub-result cast-result sub-result-2 returns cast-result-2 returns-2)
