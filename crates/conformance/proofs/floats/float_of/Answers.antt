@@ -6,21 +6,10 @@ use lib.Dec.{T}
 use lib.Ieee.{binary32, nan_bits}
 use lib.Ieee.Bits.{nan_bits_above}
 use borrow.Author.Tests.{le-ltb}
-use borrow.Author.Rules.{rules}
-use Rattle.conformance.proofs.floats.float_of.Statement.{statement}
-use Rattle.conformance.proofs.floats.float_of.Tie as tie
+use Rattle.conformance.proofs.floats.float_of.Goals as goal
 
 no_nan : (n : ℕ) → n % 2147483648 ≤ 2139095040 → T (not (nan_bits binary32 n))
 no_nan n h = subst (λ (b : Bool). T (not b)) (sym (nan_bits_above binary32 n ∙ le-ltb 2139095040 (n % 2147483648) h)) tt
 
-float-from-bits-result : tie.Need-float-from-bits-result
-float-from-bits-result c = no_nan _ c.if1.true
-
-returns : tie.Need-returns
-returns c = search rules
-
-returns-2 : tie.Need-returns-2
-returns-2 c = search rules
-
-pub float-of-spec : {M : Type 1} → statement M
-float-of-spec = tie.close (tie.spec float-from-bits-result returns returns-2)
+pub float_from_bits-result : goal.float_from_bits-result
+float_from_bits-result c = no_nan _ c.if-bits-le2139095040.true
