@@ -1,17 +1,13 @@
 -- Demand 3 of the calls that people use: whatever results meet the contracts of hopsickle_write, hopsickle_size, hopsickle_read_strict
 -- and hopsickle_read, for every content and every length of the arrays. `Lent` and `Octets` say of arrays no more than the types of
 -- their elements do: u32, u8, i32, u32, and u8.
-use Rattle.std.specs.Prelude.{◌≡◌, List, not, ℕ, ◌*◌, ◌≤◌, length, take, ℤ}
-use Rattle.std.proofs.Common.{sym, ap, ◌∙◌, arith, take_all}
-use Rattle.definition.specs.Limits.{bad_description}
-use Rattle.definition.specs.Frame.{Form, Description, frame_octets, length_of, all, Octets, Accepted}
-use Rattle.definition.specs.Answers.{accepted, refuse, over, all_counts, all_qualities}
-use Rattle.definition.specs.Flat.{numbers_of, octets_of, nth, flat_description, flat_read, flat_strict, flat_encode, flat_size, number_of, beside_it}
+use Rattle.std.specs.Prelude.{◌≡◌, List, ℕ, ◌*◌, take, ℤ}
+use Rattle.definition.specs.Frame.{Form, length_of}
+use Rattle.definition.specs.Answers.{over}
+use Rattle.definition.specs.Flat.{numbers_of, octets_of, nth, flat_description}
 use Rattle.flat_agreement.specs.Same.{SameFlat}
 use Rattle.flat_agreement.specs.Lent.{Lent}
-use Rattle.definition.specs.Over.{over_itself}
-use Rattle.definition.specs.Sizes.{quality_fits}
-use Rattle.flat_agreement.specs.Calls.{WriteCall, SizeCall, StrictCall, ReadCall, Room}
+use Rattle.flat_agreement.specs.Calls.{WriteCall}
 
 -- the arrays k₀, o₀, cs₀ and qs₀, of which k', o', cs' and qs' are left, have a description back that was written: equal to the one it
 -- was written from, and with zeros where nothing counts

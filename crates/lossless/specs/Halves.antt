@@ -3,12 +3,8 @@
 -- r × b, moved by at most one part in 2^24. Both together move n by at most 2 / 2^24 + 1 / 2^48 of itself, which is less than a half for every n
 -- below 2^22: so n is the whole number nearest to the quotient.
 -- L stands for 2^149, since `omega` takes no number of more than 38 digits.
-use Rattle.std.specs.Prelude.{◌≡◌, ℕ, zero, suc, ◌+◌, ◌*◌, ◌^◌, ◌≤◌, ◌<◌}
-use Rattle.std.proofs.Common.{ap, inl, inr, eq-zero-or-pos, mul-le-mul, mul-le-mul_right, mul-lt-mul_of_pos_right, le_of_mul-le-mul_right, lt_of_mul-lt-mul_right, arith}
-use Rattle.std.proofs.Math.Nat.{div-eq_of_lt-le}
-use Rattle.definition.specs.Scaling.{nearest_whole}
+use Rattle.std.specs.Prelude.{ℕ, ◌+◌, ◌*◌, ◌^◌, ◌≤◌, ◌<◌}
 use Rattle.lossless.specs.Bounds.{greatest, range}
-use Rattle.lossless.specs.Rounding.{Near}
 
 -- "scale factors whose magnitude lies from 2^−30 to 2^30", and a count as far as the reason holds
 pub record Given (n a b L : ℕ) : Type 0 where

@@ -1,18 +1,7 @@
 -- How far one f32 operation moves a number, over whole numbers: by at most half a unit in the last place of a 24-bit significand. In
 -- the normal range that unit is at most one part in 2^23 of the number, so the number is moved by at most one part in 2^24.
-use Rattle.std.specs.Prelude.{◌≡◌, refl, Bool, not, T, eqb}
-use Rattle.std.proofs.Common.{ap, subst, inl, inr, eq-zero-or-pos, mul-pos, mod-lt, div-add-mod', le-div_iff_mul-le, arith, lit<, leb→le, eqb→eq, pow-add, pow_pos}
-use Prim.Native.Nat.{ℕ, zero, suc, ◌+◌, ◌-◌, ◌*◌, ◌/◌, ◌%◌, ◌^◌, ◌≤◌, ◌<◌, compare, Ordering}
-use Rattle.std.proofs.Math.Dec.{is_le, compare_is_eq, nleb→lt, eqb_refl}
-use Rattle.std.proofs.Math.Arith.{lt_of_le-ne}
-use Rattle.std.specs.Float.{binary32}
-use Rattle.std.specs.Float.Ieee.{size, nearest, round}
-use Rattle.std.specs.Float.Ieee.Digits.{size_reaches}
-use Rattle.std.specs.Float.Ieee.Fits.{round_is}
-use Rattle.std.specs.Float.Ieee.Exact.{HasValue, units_val}
-use Rattle.std.specs.Float.Ieee.Nearest.{closest}
-use Rattle.std.specs.Float.Ieee.Order.{drop, kept}
-use Rattle.std.specs.Float.Ieee.Scale.{grid, overflow, normal_of_fraction}
+use Rattle.std.specs.Prelude.{◌≡◌}
+use Prim.Native.Nat.{ℕ, ◌+◌, ◌*◌, ◌^◌, ◌≤◌, ◌<◌, Ordering}
 
 -- ---- half a unit
 

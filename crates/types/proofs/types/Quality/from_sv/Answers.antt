@@ -1,6 +1,5 @@
 -- `Quality::from_sv` meets its contract: the flags compute, and the validity is what `Validity::from_sv` ensures.
 -- Assumes nothing.
-use borrow.Author.Rules.{rules}
 use Rattle.types.specs.Quality.{quality_of}
 use Rattle.types.proofs.types.Quality.from_sv.Goals as goal
 

@@ -1,6 +1,5 @@
 -- `Quality::is_good` meets its contract: the flags compute, and validity is what `Validity::is_good` ensures.
 -- Assumes nothing.
-use borrow.Author.Rules.{rules}
 use Rattle.types.specs.Quality.{good}
 use Rattle.types.proofs.types.Quality.is_good.Goals as goal
 

@@ -1,6 +1,5 @@
 -- `Timestamp::from_bytes` meets its contract: the numbers are those that `from_be_bytes` ensures.
 -- Assumes nothing.
-use borrow.Author.Rules.{rules}
 use mathlib.Core.Path.{◌≡◌}
 use native.Mathlib.Omega.{arith}
 use Rattle.types.specs.Time.{timestamp_of}

@@ -1,6 +1,5 @@
 -- `Timestamp::to_bytes` meets its contract: dividing by 256 twice is dividing by 65,536.
 -- Assumes nothing.
-use borrow.Author.Rules.{rules}
 use native.Mathlib.Nat.{div-div-eq-div-mul}
 use Rattle.types.specs.Time.{timestamp_octets}
 use Rattle.definition.specs.Octets.{octets}
