@@ -1,3 +1,3 @@
-// No code: in specs/, when two flat descriptions are equal, and demand 3 of the calls that take and
-// fill them.
+// No code: in specs/, when two flat descriptions are equal, and in proofs/ demand 3 of the calls that
+// take and fill them.
 #![tactic(auto)]

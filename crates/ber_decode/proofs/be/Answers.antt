@@ -1,3 +1,4 @@
+-- be: the sum and the product of the loop do not overflow, and the number of the octets so far grows by one.
 use Prim.Native.Nat.{◌≤◌, ◌<◌, ◌+◌, ◌-◌, ◌^◌}
 use mathlib.Core.Path.{◌≡◌, ap, ◌∙◌}
 use native.Mathlib.Omega.{arith}
