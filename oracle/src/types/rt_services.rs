@@ -1,0 +1,2 @@
+// The original's file, unchanged.
+include!("../../../../shared/docs/src/src/types/rt_services.rs");
