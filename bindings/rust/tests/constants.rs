@@ -1,6 +1,7 @@
-//! Every constant of include/hopsickle.h is one of the crates layout, rt_services or set_store and one of
-//! `sys` or `Refusal`, with the same value, and every integer constant of these is one of the header's.
-//! The sources are read, and their expressions worked out.
+//! Every constant of include/hopsickle.h is one of the crates layout, rt_services or set_store, or the
+//! number of a reason of rt_services, and one of `sys` or `Refusal`, with the same value, and every
+//! integer constant of these is one of the header's. The sources are read, and their expressions worked
+//! out.
 
 use hopsickle::{sys, Refusal};
 use std::collections::BTreeMap;
@@ -197,10 +198,34 @@ fn of_all(paths: &[&str]) -> Constants {
     all
 }
 
+/// A name in capitals, with a line before each word: `NoRoom` is `_NO_ROOM`.
+fn in_capitals(name: &str) -> String {
+    let line = |c: char| c.is_uppercase().then_some('_');
+    name.chars().flat_map(|c| line(c).into_iter().chain(c.to_uppercase())).collect()
+}
+
+/// The numbers of the reasons of a refusal, which the enum `Reason` has.
+fn of_reasons() -> Constants {
+    let text = without_comments(&text("../../crates/rt_services/src/lib.rt"), "//", "\n");
+    let variants = text.split_once("pub enum Reason {").and_then(|(_, rest)| rest.split_once('}'));
+    let (variants, _) = variants.expect("the enum of reasons");
+    let named = variants.split(',').map(str::trim).filter(|variant| !variant.is_empty());
+    named
+        .map(|variant| {
+            let (name, number) = variant.split_once('=').unwrap_or_else(|| panic!("{variant}"));
+            (format!("HOPSICKLE{}", in_capitals(name.trim())), words(number))
+        })
+        .collect()
+}
+
 fn of_crates() -> Constants {
     let path = |name| format!("../../crates/{name}/src/lib.rt");
     let [layout, services, store] = ["layout", "rt_services", "set_store"].map(path);
-    of_all(&[&layout, &services, &store])
+    let mut all = of_all(&[&layout, &services, &store]);
+    for (name, number) in of_reasons() {
+        assert_eq!(all.insert(name.clone(), number), None, "{name} twice");
+    }
+    all
 }
 
 fn of_bindings() -> Constants {

@@ -1,5 +1,5 @@
 -- The cases of head_at, number_at, span_at and has_at, one for each way out; and the bounds of what they find.
-use Rattle.std.specs.Prelude.{ℕ, zero, suc, ◌+◌, ◌-◌, ◌*◌, ◌^◌, ◌<◌, ◌≤◌, ◌≡◌, refl, List, Bool, true, false, length, take, drop, leb, ltb, eqb}
+use Rattle.std.specs.Prelude.{ℕ, zero, suc, ◌+◌, ◌-◌, ◌*◌, ◌^◌, ◌<◌, ◌≤◌, ◌≡◌, refl, List, Bool, true, false, length, take, drop, leb, eqb}
 use native.Mathlib.Omega.{arith}
 use Rattle.std.proofs.Math.Nat.{pow-le-pow_right}
 use Rattle.std.proofs.Common.{add-zero, add-one, sym, ap, ◌∙◌, lit<}
@@ -8,14 +8,13 @@ use borrow.Author.Tests.{le-leb, lt-leb, le-ltb, lt-ltb, ne_eqb, leb-true, leb-f
 use Rattle.definition.specs.Frame.{and, Bytes}
 use Rattle.definition.specs.Read.{Out, got, refused, be_at, Head, head_at, number_at, span_at, has_at, missing_at}
 use Rattle.definition.specs.Limits.{ends_too_soon, bad_length, integer_too_long}
-use Rattle.ber_decode.specs.declared.Width.{Width}
-use Rattle.ber_decode.specs.declared.Width.TheVariants as width
 use Rattle.ber_decode.specs.declared.Cursor.{Cursor}
 use Rattle.ber_decode.specs.declared.Head as code
-use Rattle.ber_decode.specs.declared.Head.TheVariants as head
 use Rattle.ber_decode.specs.declared.Span.{Span}
-use Rattle.ber_decode.specs.declared.Span.TheVariants as span
-use Rattle.ber_decode.specs.Told.{width_octets, told_head, told_span, found_span}
+use Rattle.rt_services.specs.Reasons.{reason_number}
+use Rattle.rt_services.specs.declared.Refusal.{Refusal}
+use Rattle.std.specs.Prelude.{Result, Ok, Err}
+use Rattle.ber_decode.specs.Told.{told_at, found, head_of, span_from, octets_in}
 
 -- ---- numbers
 
@@ -53,11 +52,6 @@ filled_lt s at n w {v} {p} {q} h l m a b d =
     let e : v + (p - q) < 256 ^ w = rw (a, b, d) (fill_lt (be_lt s h at n) l) in
     omega (arith, pow_four {w = w} m)
 
-pub width_in : (w : Width) → (1 ≤ width_octets w) × (width_octets w ≤ 4)
-width_in width.One = omega arith
-width_in width.Two = omega arith
-width_in width.Four = omega arith
-
 -- two numbers are one way round or the other
 split : {P : Type 0} (a b : ℕ) → (a ≤ b → P) → (b < a → P) → P
 split {P} a b f g = go (leb a b) refl
@@ -78,16 +72,20 @@ module _ (s : List ℕ) (at : ℕ) where
     unfolding head_at
     head_short h = simp (lt-leb, lt-ltb)
 
-    pub head_eighty : get_or s (at + 1) 0 ≡ 128 → head_at s at ≡ refused bad_length at
+    head_eighty : get_or s (at + 1) 0 ≡ 128 → head_at s at ≡ refused bad_length at
     unfolding head_at
     head_eighty h = simp (lt-leb, h)
 
-    pub head_above : 132 ≤ get_or s (at + 1) 0 → head_at s at ≡ refused bad_length at
+    head_above : 132 ≤ get_or s (at + 1) 0 → head_at s at ≡ refused bad_length at
     unfolding head_at
     head_above h =
         let k : 128 ≤ get_or s (at + 1) 0 = omega arith in
         let e : get_or s (at + 1) 0 ≡ 128 → ⊥ = λ e. omega arith in
         simp (lt-leb, le-ltb, ne_eqb, le-leb)
+
+    -- a length octet 80, or 84 to FF
+    pub head_bad : 128 ≤ get_or s (at + 1) 0 → (128 < get_or s (at + 1) 0 → get_or s (at + 1) 0 < 132 → ⊥) → head_at s at ≡ refused bad_length at
+    head_bad h f = split (get_or s (at + 1) 0) 128 (λ a. head_eighty (omega arith)) (λ a. split 132 (get_or s (at + 1) 0) head_above (λ b. absurd (f a b)))
 
     module _ (low : 128 < get_or s (at + 1) 0) (high : get_or s (at + 1) 0 < 132) where
       pub head_cut : length s < at + 2 + (get_or s (at + 1) 0 - 128) → head_at s at ≡ refused ends_too_soon at
@@ -131,17 +129,17 @@ module _ (s : List ℕ) (bytes : Bytes s) (at : ℕ) where
           rw (← p, ← q) g
 
   -- of the answer of `head`
-  pub head_found : {x : code.Head} → told_head x ≡ head_at s at → {t n : ℕ} {c : Cursor} → x ≡ head.Is t n c → (c.at ≤ length s) × (n < 16777216)
-  head_found e f = head_within (sym e ∙ ap told_head f)
+  pub head_found : {x : Result (code.Head × Cursor) Refusal} → told_at x ≡ found head_of (head_at s at) → {h : code.Head} {c : Cursor} → x ≡ Ok (h, c) → (c.at ≤ length s) × (h.len < 16777216)
+  head_found e f = go (head_at s at) refl (sym e ∙ ap told_at f)
+    where
+      go : {h : code.Head} {c : Cursor} (o : Out Head) → head_at s at ≡ o → found head_of o ≡ got h c.at → (c.at ≤ length s) × (h.len < 16777216)
+      go {h} {c} (got k p) f g =
+          let q : p ≡ c.at = cc in
+          let r : head_of k ≡ h = cc in
+          rw (← q, ← r) (head_within f)
+      go (refused k p) f g = let z : ◌≡◌ {A = ℕ} 0 1 = cc in absurd (omega arith)
 
 -- ---- octets that are not there
-
--- the test of a sum, without one that wraps
-pub sum_test : (at n : ℕ) → at < 2 ^ 64 → ltb (18446744073709551615 - at) n ≡ leb (2 ^ 64) (at + n)
-sum_test at n h =
-    split (2 ^ 64) (at + n)
-    (λ a. lt-ltb (18446744073709551615 - at) n (omega arith) ∙ sym (le-leb (2 ^ 64) (at + n) a))
-    (λ a. le-ltb (18446744073709551615 - at) n (omega arith) ∙ sym (lt-leb (2 ^ 64) (at + n) a))
 
 module _ (s : List ℕ) (at n : ℕ) where
   missing_sum : 2 ^ 64 ≤ at + n → missing_at s at n ≡ length s
@@ -280,20 +278,39 @@ pub record Inside (limit : ℕ) (s : List ℕ) (at n : ℕ) : Type 0 where
   pub fits : n ≤ limit
   pub within : at + n ≤ length s
 
+-- what an answer holds has this
+abbrev pub Within : {A : Type 0} → (A → Type 0) → Result (A × Cursor) Refusal → Type 0
+Within P (Ok x) = P x.0
+Within P (Err r) = Unit {0}
+
 abbrev pub SpanIn : ℕ → List ℕ → Span → Type 0
-SpanIn limit s (span.Octets at n c) = Inside limit s at n
-SpanIn limit s (span.Refused r) = Unit {0}
+SpanIn limit s x = Inside limit s x.at x.len
 
 -- an answer tells what the definition finds, and keeps within its bounds
-pub record Says {X A : Type 0} (tell : X → Out A) (In : X → Type 0) (x : X) (o : Out A) : Type 0 where
-  pub told : tell x ≡ o
-  pub inside : In x
+pub record Says {X A : Type 0} (tell : X → A) (In : X → Type 0) (x : Result (X × Cursor) Refusal) (o : Out A) : Type 0 where
+  pub told : found tell (told_at x) ≡ o
+  pub inside : Within In x
 
 -- what a step that reads octets answers, is so
-pub span_says : (number limit : ℕ) (s : List ℕ) (at n : ℕ) → Says (told_span s) (SpanIn limit s) (found_span at n (span_at number limit s at n)) (span_at number limit s at n)
-span_says number limit s at n =
+pub span_says : (number limit : ℕ) (s : List ℕ) (at n : ℕ) (x : Result (Span × Cursor) Refusal) → told_at x ≡ found (span_from at n) (span_at number limit s at n) → Says (octets_in s) (SpanIn limit s) x (span_at number limit s at n)
+span_says number limit s at n (Ok x) h =
     split (at + n) (length s) (λ f.
     split n limit
-    (λ g. rw (span_held number limit s at n f g) (record { told = refl; inside = record { fits = g; within = f } }))
-    (λ g. rw (span_long number limit s at n f g) (record { told = refl; inside = tt })))
-    (λ f. rw (span_cut number limit s at n f) (record { told = refl; inside = tt }))
+    (λ g. held f g (h ∙ ap (found (span_from at n)) (span_held number limit s at n f g)))
+    (λ g. no (h ∙ ap (found (span_from at n)) (span_long number limit s at n f g))))
+    (λ f. no (h ∙ ap (found (span_from at n)) (span_cut number limit s at n f)))
+  where
+    no : {k p : ℕ} → got x.0 x.1.at ≡ refused k p → Says (octets_in s) (SpanIn limit s) (Ok x) (span_at number limit s at n)
+    no e = let z : ◌≡◌ {A = ℕ} 0 1 = cc in absurd (omega arith)
+
+    held : at + n ≤ length s → n ≤ limit → got x.0 x.1.at ≡ got (record { at = at; len = n }) (at + n) → Says (octets_in s) (SpanIn limit s) (Ok x) (span_at number limit s at n)
+    held f g e =
+        let a : x.0 ≡ record { at = at; len = n } = cc in
+        let b : x.1.at ≡ at + n = cc in
+        let i : Inside limit s x.0.at x.0.len = rw a (record { fits = g; within = f }) in
+        record { told = rw (a, b) (sym (span_held number limit s at n f g)); inside = i }
+span_says number limit s at n (Err r) h = record { told = go (span_at number limit s at n) h; inside = tt }
+  where
+    go : (o : Out (List ℕ)) → refused (reason_number r.reason) r.place ≡ found (span_from at n) o → refused (reason_number r.reason) r.place ≡ o
+    go (got l p) e = let z : ◌≡◌ {A = ℕ} 0 1 = cc in absurd (omega arith)
+    go (refused k p) e = cc

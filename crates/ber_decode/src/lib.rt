@@ -1,11 +1,12 @@
-// Steps over received octets (X.690): a cursor by value, and an enum for each answer.
+// Steps over received octets (X.690): a cursor by value, whose steps hand back the next one.
 #![tactic(auto)]
 
-ghost use Rattle.std.specs.Prelude.{◌≡◌, ◌+◌, ◌-◌, ◌≤◌, ◌<◌, ◌^◌, length, leb};
+ghost use Rattle.std.specs.Prelude.{◌≡◌, ◌+◌, ◌-◌, ◌≤◌, ◌<◌, ◌^◌, length};
 ghost use Rattle.definition.specs.Read.{be_at, head_at, number_at, span_at, has_at};
-ghost use Rattle.ber_decode.specs.Told.{told_head, told_number, found_span, beyond_end, width_octets, head_refusal, number_refusal, span_refusal, outcome_refusal};
+ghost use Rattle.rt_services.specs.Reasons.{reason_number};
+ghost use Rattle.ber_decode.specs.Told.{told_at, found, head_of, span_from, width_octets};
 
-use rt_services::Refusal;
+use rt_services::{Reason, Refusal};
 
 // A place in the received octets.
 #[derive(Clone, Copy)]
@@ -13,68 +14,39 @@ pub struct Cursor {
     pub at: usize,
 }
 
-// A tag, its length, and the place after both.
+// A tag, and the length after it.
 #[derive(Clone, Copy)]
-pub enum Head {
-    Refused(Refusal),
-    Is(u8, usize, Cursor),
+pub struct Head {
+    pub tag: u8,
+    pub len: usize,
 }
 
-// An integer, and the place after it.
+// Octets: the place of the first, and how many they are.
 #[derive(Clone, Copy)]
-pub enum Number {
-    Refused(Refusal),
-    Value(u32, Cursor),
-}
-
-// The place of the first of some octets, how many they are, and the place after them.
-#[derive(Clone, Copy)]
-pub enum Span {
-    Refused(Refusal),
-    Octets(usize, usize, Cursor),
-}
-
-// Where reading goes on, or why it ended.
-#[derive(Clone, Copy)]
-pub enum Outcome {
-    Refused(Refusal),
-    Next(Cursor),
+pub struct Span {
+    pub at: usize,
+    pub len: usize,
 }
 
 // The octets of an integer field.
 #[derive(Clone, Copy)]
 pub enum Width {
-    One,
-    Two,
-    Four,
+    One = 1,
+    Two = 2,
+    Four = 4,
 }
 
-// The big-endian number of the n octets from at.
+// The big-endian number of the n octets from at: the library's `from_be_bytes` takes an array of a
+// fixed length, which would be filled first.
 pub fn be(s: &[u8], at: usize, n: usize) -> u32
     requires { (n ≤ 4) × (at + n ≤ length s.now) }
     ensures { result ≡ be_at s.now at n }
 {
     let mut value: u32 = 0;
-    let mut i = 0;
-    while i < n {
+    for i in 0..n {
         value = value * 256 + s[at + i] as u32;
-        i += 1;
     }
     value
-}
-
-// 256 to the n.
-fn power(n: usize) -> u64
-    requires { n ≤ 4 }
-    ensures { result ≡ 256 ^ n }
-{
-    match n {
-        0 => 1,
-        1 => 256,
-        2 => 65536,
-        3 => 16777216,
-        _ => 4294967296,
-    }
 }
 
 // The n octets from at, sign-extended to width octets.
@@ -83,248 +55,126 @@ fn extended(s: &[u8], at: usize, width: usize, n: usize) -> u32
     ensures { result ≡ be_at s.now at n + (256 ^ width - 256 ^ n) }
 {
     let value = be(s, at, n);
-    let whole = value as u64 + (power(width) - power(n));
+    let whole = value as u64 + ((1u64 << (8 * width)) - (1u64 << (8 * n)));
     whole as u32
 }
 
-// Whether a place and a length add up to 2^64 or more.
-fn passes(at: usize, len: usize) -> bool
-    ensures { result ≡ leb (2 ^ 64) (at + len) }
-{
-    18446744073709551615 - at < len
-}
-
-// Then no octets are there, and the place is the end of those that are.
-fn beyond(s: &[u8]) -> Refusal
-    ensures { result ≡ beyond_end s.now }
-{
-    Refusal {
-        number: Refusal::ENDS_TOO_SOON,
-        place: s.len(),
-    }
-}
-
 // An integer of len octets from at, in a field of width octets.
-fn integer_of(s: &[u8], at: usize, width: usize, len: usize) -> Number
+fn integer_of(s: &[u8], at: usize, width: usize, len: usize) -> Result<(u32, Cursor), Refusal>
     requires { (1 ≤ width) × (width ≤ 4) × (at + len < 2 ^ 64) }
-    ensures { told_number result ≡ number_at width s.now at len }
+    ensures { told_at result ≡ number_at width s.now at len }
 {
-    if s.len() <= at {
-        return Number::Refused(Refusal {
-            number: Refusal::ENDS_TOO_SOON,
-            place: at,
-        });
-    }
-    if s.len() - at < len {
-        return Number::Refused(Refusal {
-            number: Refusal::ENDS_TOO_SOON,
-            place: at,
-        });
+    if s.len() <= at || s.len() - at < len {
+        return Err(Reason::EndsTooSoon.at(at));
     }
     let first = s[at];
+    let after = Cursor { at: at + len };
     if len <= width {
         if first < 0x80 {
-            return Number::Value(be(s, at, len), Cursor { at: at + len });
+            return Ok((be(s, at, len), after));
         }
-        return Number::Value(extended(s, at, width, len), Cursor { at: at + len });
+        return Ok((extended(s, at, width, len), after));
     }
-    if width + 1 < len {
-        return Number::Refused(Refusal {
-            number: Refusal::INTEGER_TOO_LONG,
-            place: at,
-        });
+    if width + 1 < len || 0 < first || s[at + 1] < 0x80 {
+        return Err(Reason::IntegerTooLong.at(at));
     }
-    if 0 < first {
-        return Number::Refused(Refusal {
-            number: Refusal::INTEGER_TOO_LONG,
-            place: at,
-        });
-    }
-    if s[at + 1] < 0x80 {
-        return Number::Refused(Refusal {
-            number: Refusal::INTEGER_TOO_LONG,
-            place: at,
-        });
-    }
-    Number::Value(be(s, at + 1, width), Cursor { at: at + len })
+    Ok((be(s, at + 1, width), after))
 }
 
 impl Width {
     pub fn octets(self) -> usize
         ensures { result ≡ width_octets self }
     {
-        match self {
-            Width::One => 1,
-            Width::Two => 2,
-            Width::Four => 4,
-        }
+        self as usize
     }
 }
 
 impl Cursor {
     // A tag and its length.
-    pub fn head(self, s: &[u8]) -> Head
-        ensures { told_head result ≡ head_at s.now self.at }
+    pub fn head(self, s: &[u8]) -> Result<(Head, Cursor), Refusal>
+        ensures { told_at result ≡ found head_of (head_at s.now self.at) }
     {
         let at = self.at;
-        if s.len() <= at {
-            return Head::Refused(Refusal {
-                number: Refusal::ENDS_TOO_SOON,
-                place: at,
-            });
-        }
-        if s.len() - at < 2 {
-            return Head::Refused(Refusal {
-                number: Refusal::ENDS_TOO_SOON,
-                place: at,
-            });
+        if s.len() <= at || s.len() - at < 2 {
+            return Err(Reason::EndsTooSoon.at(at));
         }
         let tag = s[at];
         let first = s[at + 1];
         if first < 0x80 {
-            return Head::Is(tag, first as usize, Cursor { at: at + 2 });
+            let len = first as usize;
+            return Ok((Head { tag, len }, Cursor { at: at + 2 }));
         }
-        if first == 0x80 {
-            return Head::Refused(Refusal {
-                number: Refusal::BAD_LENGTH,
-                place: at,
-            });
-        }
-        if 0x84 <= first {
-            return Head::Refused(Refusal {
-                number: Refusal::BAD_LENGTH,
-                place: at,
-            });
+        if first == 0x80 || 0x84 <= first {
+            return Err(Reason::BadLength.at(at));
         }
         let more = (first - 0x80) as usize;
         if s.len() - at < more + 2 {
-            return Head::Refused(Refusal {
-                number: Refusal::ENDS_TOO_SOON,
-                place: at,
-            });
+            return Err(Reason::EndsTooSoon.at(at));
         }
         let len = be(s, at + 2, more) as usize;
-        Head::Is(tag, len, Cursor { at: at + 2 + more })
+        Ok((Head { tag, len }, Cursor { at: at + 2 + more }))
     }
 
     // An integer of len octets, in a field of this width.
-    pub fn integer(self, s: &[u8], width: Width, len: usize) -> Number
-        ensures { told_number result ≡ number_at (width_octets width) s.now self.at len }
+    pub fn integer(self, s: &[u8], width: Width, len: usize) -> Result<(u32, Cursor), Refusal>
+        ensures { told_at result ≡ number_at (width_octets width) s.now self.at len }
     {
-        if passes(self.at, len) {
-            return Number::Refused(beyond(s));
-        }
+        let Some(_) = self.at.checked_add(len) else {
+            return Err(Reason::EndsTooSoon.at(s.len()));
+        };
         self.integer_after(s, width, len)
     }
 
-    // The same where place and length stay below 2^64, as they do after a tag and its length.
-    pub fn integer_after(self, s: &[u8], width: Width, len: usize) -> Number
+    // The same where place and length stay below 2^64, as they do after a tag and its length: two
+    // functions, since the readers would make the test of the sum for nothing.
+    pub fn integer_after(self, s: &[u8], width: Width, len: usize) -> Result<(u32, Cursor), Refusal>
         requires { self.at + len < 2 ^ 64 }
-        ensures { told_number result ≡ number_at (width_octets width) s.now self.at len }
+        ensures { told_at result ≡ number_at (width_octets width) s.now self.at len }
     {
-        let octets = width.octets();
-        integer_of(s, self.at, octets, len)
+        integer_of(s, self.at, width.octets(), len)
     }
 
-    // len octets; above limit they are refused with that number.
-    pub fn octets(self, s: &[u8], number: usize, limit: usize, len: usize) -> Span
-        ensures { result ≡ found_span self.at len (span_at number limit s.now self.at len) }
+    // len octets; above limit they are refused for that reason.
+    pub fn octets(
+        self,
+        s: &[u8],
+        reason: Reason,
+        limit: usize,
+        len: usize,
+    ) -> Result<(Span, Cursor), Refusal>
+        ensures { told_at result ≡ found (span_from self.at len) (span_at (reason_number reason) limit s.now self.at len) }
     {
-        if passes(self.at, len) {
-            return Span::Refused(beyond(s));
-        }
-        self.octets_after(s, number, limit, len)
+        let Some(_) = self.at.checked_add(len) else {
+            return Err(Reason::EndsTooSoon.at(s.len()));
+        };
+        self.octets_after(s, reason, limit, len)
     }
 
     // The same where place and length stay below 2^64.
-    pub fn octets_after(self, s: &[u8], number: usize, limit: usize, len: usize) -> Span
+    pub fn octets_after(
+        self,
+        s: &[u8],
+        reason: Reason,
+        limit: usize,
+        len: usize,
+    ) -> Result<(Span, Cursor), Refusal>
         requires { self.at + len < 2 ^ 64 }
-        ensures { result ≡ found_span self.at len (span_at number limit s.now self.at len) }
+        ensures { told_at result ≡ found (span_from self.at len) (span_at (reason_number reason) limit s.now self.at len) }
     {
         let at = self.at;
-        if s.len() < at {
-            return Span::Refused(Refusal {
-                number: Refusal::ENDS_TOO_SOON,
-                place: at,
-            });
-        }
-        if s.len() - at < len {
-            return Span::Refused(Refusal {
-                number: Refusal::ENDS_TOO_SOON,
-                place: at,
-            });
+        if s.len() < at || s.len() - at < len {
+            return Err(Reason::EndsTooSoon.at(at));
         }
         if limit < len {
-            return Span::Refused(Refusal { number, place: at });
+            return Err(reason.at(at));
         }
-        Span::Octets(at, len, Cursor { at: at + len })
+        Ok((Span { at, len }, Cursor { at: at + len }))
     }
 
     // Whether the next octet is this tag.
     pub fn has(self, s: &[u8], tag: u8) -> bool
         ensures { result ≡ has_at s.now self.at tag }
     {
-        let at = self.at;
-        if s.len() <= at {
-            return false;
-        }
-        s[at] == tag
-    }
-}
-
-// The refusal of an answer that is one.
-impl Head {
-    pub fn refusal(self) -> Refusal
-        ensures { result ≡ head_refusal self }
-    {
-        match self {
-            Head::Is(_, _, _) => Refusal {
-                number: 0,
-                place: 0,
-            },
-            Head::Refused(r) => r,
-        }
-    }
-}
-
-impl Number {
-    pub fn refusal(self) -> Refusal
-        ensures { result ≡ number_refusal self }
-    {
-        match self {
-            Number::Value(_, _) => Refusal {
-                number: 0,
-                place: 0,
-            },
-            Number::Refused(r) => r,
-        }
-    }
-}
-
-impl Span {
-    pub fn refusal(self) -> Refusal
-        ensures { result ≡ span_refusal self }
-    {
-        match self {
-            Span::Octets(_, _, _) => Refusal {
-                number: 0,
-                place: 0,
-            },
-            Span::Refused(r) => r,
-        }
-    }
-}
-
-impl Outcome {
-    pub fn refusal(self) -> Refusal
-        ensures { result ≡ outcome_refusal self }
-    {
-        match self {
-            Outcome::Next(_) => Refusal {
-                number: 0,
-                place: 0,
-            },
-            Outcome::Refused(r) => r,
-        }
+        s.get(self.at) == Some(&tag)
     }
 }

@@ -1,6 +1,6 @@
 -- Octets written over a list from a position on, and the laws that writers compose by.
 use Rattle.std.specs.Prelude.{◌≡◌, refl, List, [], ◌∷◌, ◌++◌, ℕ, suc, ◌+◌, ◌-◌, ◌≤◌, ◌<◌, length, take, drop, set}
-use Rattle.std.proofs.Common.{sym, ap, ◌∙◌, append_assoc, append-nil, add-zero, add-one, arith, length-set, length-append, length-drop, length-take, take-append-drop, drop_of_length-le, take_all}
+use Rattle.std.proofs.Common.{sym, ap, ◌∙◌, append_assoc, append-nil, add-zero, add-one, arith, length-set, length-append, length-drop, length-take, take-append-drop, drop_of_length-le, take_all, drop-drop}
 use Rattle.definition.specs.Answers.{over}
 use Rattle.std.proofs.lemmas.List.Edits.{sets, sets-eq}
 use Rattle.std.proofs.lemmas.List.{drop-set-add, take-set-le, set_comm}
@@ -101,3 +101,12 @@ part_wrote d a {xs} {d'} {r} h w =
 
 pub part_length : (d : List ℕ) (a : ℕ) → length (take (length d - a) (drop a d)) ≡ length d - a
 part_length d a = simp (length-take, length-drop) (omega arith)
+
+-- a copy into the part from `at` on, of k elements
+pub mid_wrote : (d : List ℕ) (at k : ℕ) {xs ys : List ℕ} → ys ≡ xs → k ≡ length xs → at + length xs ≤ length d
+    → Wrote d at xs (take at d ++ (ys ++ drop k (drop at d))) (at + length xs)
+unfolding over
+mid_wrote d at k {xs} {ys} e f h = record {
+  list = rw (e, f, drop-drop) (sym (put_over d at xs h));
+  place = refl;
+}

@@ -5,19 +5,19 @@
 ghost use Rattle.std.specs.Prelude.{◌≡◌, ◌∷◌, ◌+◌, ◌-◌, ◌/◌, ◌%◌, ◌≤◌, ◌<◌, length};
 ghost use Rattle.definition.specs.Limits.{length_limit};
 ghost use Rattle.definition.specs.Octets.{octets, length_more, length_octets, uint_size, uint_octets, tlv};
-ghost use Rattle.definition.specs.Held.{held_octets};
 ghost use Rattle.definition.specs.Answers.{encode_tag_length, encode_ber, leaves};
 ghost use Rattle.ber_encode.specs.Put.{Wrote};
 ghost use Rattle.ber_encode.specs.Size.{length_size, tlv_size};
 ghost use Rattle.ber_encode.specs.Told.{refused_as};
-ghost use Rattle.rt_services.specs.Told.{told_written};
+ghost use Rattle.rt_services.specs.Reasons.{told};
 
-use rt_services::{Refusal, Written};
+use rt_services::{Reason, Refusal};
 
 // A length below this can be written.
 const LENGTH_LIMIT: usize = 16777216;
 
 // How many octets follow 81, 82 or 83 in the length n, from 128 on.
+#[tactic(auto, unfolding(definition::specs::Octets::length_more))]
 fn length_more(n: usize) -> usize
     ensures { result ≡ length_more n }
 {
@@ -44,7 +44,7 @@ pub fn size_length(value: usize) -> usize
 pub fn unsigned_integer_length(value: u32) -> usize
     ensures { result ≡ uint_size value }
 {
-    ((32 - u32::leading_zeros(value)) / 8 + 1) as usize
+    ((32 - value.leading_zeros()) / 8 + 1) as usize
 }
 
 // How many octets an element is written in: tag, length and n octets of content.
@@ -55,17 +55,16 @@ pub fn tlv_size(n: usize) -> usize
     1 + size_length(n) + n
 }
 
-// The k low octets of v, highest first.
+// The k low octets of v, highest first: k is 1 to 5, where the library's `to_be_bytes` is of a fixed
+// length.
 pub fn put_octets(buffer: &mut [u8], at: usize, k: usize, v: u32) -> usize
     requires { at + k ≤ length buffer.old }
     ensures { Wrote buffer.old at (octets k v) buffer.new result }
 {
-    let mut j = k;
     let mut x = v;
-    while 0 < j {
-        j -= 1;
+    for j in (0..k).rev() {
         buffer[at + j] = (x % 256) as u8;
-        x = x / 256;
+        x /= 256;
     }
     at + k
 }
@@ -75,12 +74,9 @@ pub fn put_bytes(buffer: &mut [u8], at: usize, src: &[u8]) -> usize
     requires { at + length src.now ≤ length buffer.old }
     ensures { Wrote buffer.old at src.now buffer.new result }
 {
-    let mut i = 0;
-    while i < src.len() {
-        buffer[at + i] = src[i];
-        i += 1;
-    }
-    at + i
+    let end = at + src.len();
+    buffer[at..end].copy_from_slice(src);
+    end
 }
 
 // A tag and the length n.
@@ -125,82 +121,62 @@ pub fn put_string(buffer: &mut [u8], at: usize, tag: u8, src: &[u8]) -> usize
     put_bytes(buffer, p, src)
 }
 
-// The octets that an array holds, `len` of them, with their tag.
-pub fn put_held(buffer: &mut [u8], at: usize, tag: u8, array: &[u8], len: usize) -> usize
-    requires { (at + length (tlv tag (held_octets len array.now)) ≤ length buffer.old) × ((len ≤ length array.now) × (len < length_limit)) }
-    ensures { Wrote buffer.old at (tlv tag (held_octets len array.now)) buffer.new result }
+// Refuses an element that has no room, or that tells a length of 2^24 or more. Its tag stands at
+// `at`, with `size` length octets that tell the length n, and `content` octets after them.
+#[tactic(auto, using(crate::specs::Told::as_no_room, crate::specs::Told::as_too_long, crate::specs::Told::as_none))]
+fn check_room(room: usize, at: usize, size: usize, content: usize, n: usize) -> Result<(), Refusal>
+    ensures { told result ≡ refused_as room (at + (1 + size + content)) n }
 {
-    put_string(buffer, at, tag, &array[..len])
-}
-
-// a - b, and 0 where b is larger.
-fn less(a: usize, b: usize) -> usize
-    ensures { result ≡ a - b }
-{
-    if a < b {
-        return 0;
-    }
-    a - b
-}
-
-// The number of the refusal of an element whose tag stands at `at`, with `size` length octets that
-// tell the length n and `content` octets after them; 0 where it can be written.
-fn refused_as(room: usize, at: usize, size: usize, content: usize, n: usize) -> usize
-    ensures { result ≡ refused_as room (at + (1 + size + content)) n }
-{
-    let left = less(less(room, at), content);
+    let left = room.saturating_sub(at).saturating_sub(content);
     if left <= size {
-        return Refusal::NO_ROOM;
+        return Err(Reason::NoRoom.at(0));
     }
     if LENGTH_LIMIT <= n {
-        return Refusal::TOO_LONG_TO_WRITE;
+        return Err(Reason::TooLongToWrite.at(0));
     }
-    0
+    Ok(())
 }
 
 // A tag and the length `value`.
-pub fn encode_tag_length(tag: u8, value: usize, buffer: &mut [u8], at: usize) -> Written
-    ensures answer { told_written result ≡ encode_tag_length (length buffer.old) at tag value }
+pub fn encode_tag_length(
+    tag: u8,
+    value: usize,
+    buffer: &mut [u8],
+    at: usize,
+) -> Result<usize, Refusal>
+    ensures answer { told result ≡ encode_tag_length (length buffer.old) at tag value }
     ensures octets { buffer.new ≡ leaves (encode_tag_length (length buffer.old) at tag value) buffer.old at (tag ∷ length_octets value) }
 {
-    let number = refused_as(buffer.len(), at, size_length(value), 0, value);
-    if number != 0 {
-        return Written::Refused(Refusal {
-            number: number,
-            place: 0,
-        });
-    }
-    Written::At(put_tag_length(buffer, at, tag, value))
+    check_room(buffer.len(), at, size_length(value), 0, value)?;
+    Ok(put_tag_length(buffer, at, tag, value))
 }
 
 // An unsigned integer with its tag.
-pub fn encode_unsigned_integer(tag: u8, value: u32, buffer: &mut [u8], at: usize) -> Written
-    ensures answer { told_written result ≡ encode_ber (length buffer.old) at tag (uint_octets value) }
+pub fn encode_unsigned_integer(
+    tag: u8,
+    value: u32,
+    buffer: &mut [u8],
+    at: usize,
+) -> Result<usize, Refusal>
+    ensures answer { told result ≡ encode_ber (length buffer.old) at tag (uint_octets value) }
     ensures octets { buffer.new ≡ leaves (encode_ber (length buffer.old) at tag (uint_octets value)) buffer.old at (tlv tag (uint_octets value)) }
 {
     let size = unsigned_integer_length(value);
-    let number = refused_as(buffer.len(), at, size_length(size), size, size);
-    if number != 0 {
-        return Written::Refused(Refusal {
-            number: number,
-            place: 0,
-        });
-    }
-    Written::At(put_uint(buffer, at, tag, value))
+    check_room(buffer.len(), at, size_length(size), size, size)?;
+    Ok(put_uint(buffer, at, tag, value))
 }
 
 // Octets with their tag.
-pub fn encode_octet_string(tag: u8, value: &[u8], buffer: &mut [u8], at: usize) -> Written
-    ensures answer { told_written result ≡ encode_ber (length buffer.old) at tag value.now }
+pub fn encode_octet_string(
+    tag: u8,
+    value: &[u8],
+    buffer: &mut [u8],
+    at: usize,
+) -> Result<usize, Refusal>
+    ensures answer { told result ≡ encode_ber (length buffer.old) at tag value.now }
     ensures octets { buffer.new ≡ leaves (encode_ber (length buffer.old) at tag value.now) buffer.old at (tlv tag value.now) }
 {
     let size = value.len();
-    let number = refused_as(buffer.len(), at, size_length(size), size, size);
-    if number != 0 {
-        return Written::Refused(Refusal {
-            number: number,
-            place: 0,
-        });
-    }
-    Written::At(put_string(buffer, at, tag, value))
+    check_room(buffer.len(), at, size_length(size), size, size)?;
+    Ok(put_string(buffer, at, tag, value))
 }

@@ -1,10 +1,10 @@
 // Demand 3 of the calls, as contracts: each function makes two calls, and promises of their answers
 // what the theorem of its name in `flat_agreement` says, for every content and every length of the
-// arrays. Nothing is asked of its caller.
+// arrays. Nothing is asked of its caller. Arrays are parameters one by one, as in the C interface.
 // `fixed` is the form of the counters: fixed, or else shortest.
 #![tactic(auto)]
 
-ghost use Rattle.std.specs.Prelude.{◌≡◌, ◌*◌, ◌≤◌, length, take, not};
+ghost use Rattle.std.specs.Prelude.{◌≡◌, ◌*◌, ◌≤◌, length, take, not, Some, IsSomeAnd};
 ghost use Rattle.definition.specs.Limits.{bad_description};
 ghost use Rattle.definition.specs.Frame.{all};
 ghost use Rattle.definition.specs.Answers.{accepted, refuse, over};
@@ -14,14 +14,14 @@ ghost use Rattle.flat_agreement.specs.Calls.{WriteCall, SizeCall, StrictCall, Re
 ghost use Rattle.flat_agreement.specs.Same.{SameFlat};
 ghost use Rattle.flat_agreement.specs.Theorems.{Returned};
 
-// What two calls answered: the number of each, and what stands beside it; 0 and 0 of a second call
-// that is not made.
+use flat_agreement::Answer;
+
+// What two calls answered. Where the second is made only after an accepted first, `T` is
+// `Option<Answer>`, and none is the answer of a call that is not made.
 #[derive(Clone, Copy)]
-pub struct Answers {
-    pub first: usize,
-    pub beside_first: usize,
-    pub second: usize,
-    pub beside_second: usize,
+pub struct Answers<T> {
+    pub first: Answer,
+    pub second: T,
 }
 
 // Written, and where that is accepted strictly read.
@@ -37,26 +37,28 @@ pub fn write_then_read(
     octets_back: &mut [u8],
     counts_back: &mut [i32],
     qualities_back: &mut [u32],
-) -> Answers
-    ensures write { WriteCall fixed channels numbers.now octets.now counts.now qualities.now frame.old frame.new result.first result.beside_first }
-    ensures read { result.first ≡ 0 → Room (nth numbers.now 9) channels numbers_back.old octets_back.old counts_back.old qualities_back.old
-        → Returned fixed channels numbers.now octets.now counts.now qualities.now numbers_back.old numbers_back.new octets_back.old octets_back.new counts_back.old counts_back.new qualities_back.old qualities_back.new result.second result.beside_second }
+) -> Answers<Option<Answer>>
+    ensures write { WriteCall fixed channels numbers.now octets.now counts.now qualities.now frame.old frame.new result.first.number result.first.beside }
+    ensures read { result.first.number ≡ 0 → Room (nth numbers.now 9) channels numbers_back.old octets_back.old counts_back.old qualities_back.old
+        → IsSomeAnd result.second (λ x. Returned fixed channels numbers.now octets.now counts.now qualities.now numbers_back.old numbers_back.new octets_back.old octets_back.new counts_back.old counts_back.new qualities_back.old qualities_back.new x.number x.beside) }
 {
     record_agreement::widths::counts(counts);
     let mut size = 0;
-    let first = hopsickle::hopsickle_write(
+    let number = hopsickle::hopsickle_write(
         numbers, octets, channels, fixed, counts, qualities, frame, &mut size,
     );
-    if 0 < first {
+    let first = Answer {
+        number,
+        beside: size,
+    };
+    if 0 < number {
         return Answers {
             first,
-            beside_first: size,
-            second: 0,
-            beside_second: 0,
+            second: None,
         };
     }
-    let mut place = 0;
-    let second = hopsickle::hopsickle_read_strict(
+    let mut beside = 0;
+    let number = hopsickle::hopsickle_read_strict(
         &frame[..size],
         channels,
         fixed,
@@ -64,13 +66,11 @@ pub fn write_then_read(
         octets_back,
         counts_back,
         qualities_back,
-        &mut place,
+        &mut beside,
     );
     Answers {
         first,
-        beside_first: size,
-        second,
-        beside_second: place,
+        second: Some(Answer { number, beside }),
     }
 }
 
@@ -84,32 +84,43 @@ pub fn read_then_write(
     counts: &mut [i32],
     qualities: &mut [u32],
     frame: &mut [u8],
-) -> Answers
-    ensures read { StrictCall fixed channels s.now numbers.old numbers.new octets.old octets.new counts.old counts.new qualities.old qualities.new result.first result.beside_first }
-    ensures write { result.first ≡ 0 → length s.now ≤ length frame.old
-        → (result.second ≡ 0) × (result.beside_second ≡ length s.now) × (frame.new ≡ over frame.old 0 s.now) }
+) -> Answers<Option<Answer>>
+    ensures read { StrictCall fixed channels s.now numbers.old numbers.new octets.old octets.new counts.old counts.new qualities.old qualities.new result.first.number result.first.beside }
+    ensures write { result.first.number ≡ 0 → length s.now ≤ length frame.old
+        → (result.second ≡ Some (record { number = 0; beside = length s.now })) × (frame.new ≡ over frame.old 0 s.now) }
 {
-    let mut place = 0;
-    let first = hopsickle::hopsickle_read_strict(
-        s, channels, fixed, numbers, octets, counts, qualities, &mut place,
+    let mut beside = 0;
+    let number = hopsickle::hopsickle_read_strict(
+        s,
+        channels,
+        fixed,
+        numbers,
+        octets,
+        counts,
+        qualities,
+        &mut beside,
     );
-    if 0 < first {
+    let first = Answer { number, beside };
+    if 0 < number {
         return Answers {
             first,
-            beside_first: place,
-            second: 0,
-            beside_second: 0,
+            second: None,
         };
     }
-    let mut size = 0;
-    let second = hopsickle::hopsickle_write(
-        numbers, octets, channels, fixed, counts, qualities, frame, &mut size,
+    let mut beside = 0;
+    let number = hopsickle::hopsickle_write(
+        numbers,
+        octets,
+        channels,
+        fixed,
+        counts,
+        qualities,
+        frame,
+        &mut beside,
     );
     Answers {
         first,
-        beside_first: place,
-        second,
-        beside_second: size,
+        second: Some(Answer { number, beside }),
     }
 }
 
@@ -126,32 +137,36 @@ pub fn read_both(
     other_octets: &mut [u8],
     other_counts: &mut [i32],
     other_qualities: &mut [u32],
-) -> Answers
-    ensures strict { StrictCall fixed channels s.now numbers.old numbers.new octets.old octets.new counts.old counts.new qualities.old qualities.new result.first result.beside_first }
-    ensures ordinary { ReadCall channels s.now other_numbers.old other_numbers.new other_octets.old other_octets.new other_counts.old other_counts.new other_qualities.old other_qualities.new result.second result.beside_second }
-    ensures same { result.first ≡ 0 → numbers.old ≡ other_numbers.old → octets.old ≡ other_octets.old → counts.old ≡ other_counts.old → qualities.old ≡ other_qualities.old
-        → (result.second ≡ 0) × (result.beside_second ≡ 0) × (other_numbers.new ≡ numbers.new) × (other_octets.new ≡ octets.new) × (other_counts.new ≡ counts.new) × (other_qualities.new ≡ qualities.new) }
+) -> Answers<Answer>
+    ensures strict { StrictCall fixed channels s.now numbers.old numbers.new octets.old octets.new counts.old counts.new qualities.old qualities.new result.first.number result.first.beside }
+    ensures ordinary { ReadCall channels s.now other_numbers.old other_numbers.new other_octets.old other_octets.new other_counts.old other_counts.new other_qualities.old other_qualities.new result.second.number result.second.beside }
+    ensures same { result.first.number ≡ 0 → numbers.old ≡ other_numbers.old → octets.old ≡ other_octets.old → counts.old ≡ other_counts.old → qualities.old ≡ other_qualities.old
+        → (result.second.number ≡ 0) × (result.second.beside ≡ 0) × (other_numbers.new ≡ numbers.new) × (other_octets.new ≡ octets.new) × (other_counts.new ≡ counts.new) × (other_qualities.new ≡ qualities.new) }
 {
-    let mut place = 0;
-    let first = hopsickle::hopsickle_read_strict(
-        s, channels, fixed, numbers, octets, counts, qualities, &mut place,
+    let mut beside = 0;
+    let number = hopsickle::hopsickle_read_strict(
+        s,
+        channels,
+        fixed,
+        numbers,
+        octets,
+        counts,
+        qualities,
+        &mut beside,
     );
-    let mut other_place = 0;
-    let second = hopsickle::hopsickle_read(
+    let first = Answer { number, beside };
+    let mut beside = 0;
+    let number = hopsickle::hopsickle_read(
         s,
         channels,
         other_numbers,
         other_octets,
         other_counts,
         other_qualities,
-        &mut other_place,
+        &mut beside,
     );
-    Answers {
-        first,
-        beside_first: place,
-        second,
-        beside_second: other_place,
-    }
+    let second = Answer { number, beside };
+    Answers { first, second }
 }
 
 // Two descriptions are written, each in its form.
@@ -169,20 +184,28 @@ pub fn write_both(
     other_counts: &[i32],
     other_qualities: &[u32],
     other_frame: &mut [u8],
-) -> Answers
-    ensures one { WriteCall fixed channels numbers.now octets.now counts.now qualities.now frame.old frame.new result.first result.beside_first }
-    ensures other { WriteCall other_fixed channels other_numbers.now other_octets.now other_counts.now other_qualities.now other_frame.old other_frame.new result.second result.beside_second }
-    ensures same { result.first ≡ 0 → result.second ≡ 0 → take result.beside_first frame.new ≡ take result.beside_second other_frame.new
+) -> Answers<Answer>
+    ensures one { WriteCall fixed channels numbers.now octets.now counts.now qualities.now frame.old frame.new result.first.number result.first.beside }
+    ensures other { WriteCall other_fixed channels other_numbers.now other_octets.now other_counts.now other_qualities.now other_frame.old other_frame.new result.second.number result.second.beside }
+    ensures same { result.first.number ≡ 0 → result.second.number ≡ 0 → take result.first.beside frame.new ≡ take result.second.beside other_frame.new
         → SameFlat channels numbers.now octets.now counts.now qualities.now other_numbers.now other_octets.now other_counts.now other_qualities.now }
 {
     record_agreement::widths::counts(counts);
     record_agreement::widths::counts(other_counts);
-    let mut size = 0;
-    let first = hopsickle::hopsickle_write(
-        numbers, octets, channels, fixed, counts, qualities, frame, &mut size,
+    let mut beside = 0;
+    let number = hopsickle::hopsickle_write(
+        numbers,
+        octets,
+        channels,
+        fixed,
+        counts,
+        qualities,
+        frame,
+        &mut beside,
     );
-    let mut other_size = 0;
-    let second = hopsickle::hopsickle_write(
+    let first = Answer { number, beside };
+    let mut beside = 0;
+    let number = hopsickle::hopsickle_write(
         other_numbers,
         other_octets,
         channels,
@@ -190,14 +213,10 @@ pub fn write_both(
         other_counts,
         other_qualities,
         other_frame,
-        &mut other_size,
+        &mut beside,
     );
-    Answers {
-        first,
-        beside_first: size,
-        second,
-        beside_second: other_size,
-    }
+    let second = Answer { number, beside };
+    Answers { first, second }
 }
 
 // The size, and written.
@@ -209,18 +228,19 @@ pub fn size_then_write(
     counts: &[i32],
     qualities: &[u32],
     frame: &mut [u8],
-) -> Answers
-    ensures size { SizeCall fixed channels numbers.now octets.now result.first result.beside_first }
-    ensures write { WriteCall fixed channels numbers.now octets.now counts.now qualities.now frame.old frame.new result.second result.beside_second }
-    ensures written { result.second ≡ 0 → (result.first ≡ 0) × (result.beside_first ≡ result.beside_second) }
-    ensures enough { result.first ≡ 0 → nth numbers.now 9 * channels ≤ length counts.now → nth numbers.now 9 * channels ≤ length qualities.now → result.beside_first ≤ length frame.old
-        → (result.second ≡ number_of (refuse (not (all quality_fits (take (nth numbers.now 9 * channels) qualities.now))) bad_description (accepted result.beside_first)))
-        × (result.beside_second ≡ beside_it (λ n. n) (refuse (not (all quality_fits (take (nth numbers.now 9 * channels) qualities.now))) bad_description (accepted result.beside_first))) }
+) -> Answers<Answer>
+    ensures size { SizeCall fixed channels numbers.now octets.now result.first.number result.first.beside }
+    ensures write { WriteCall fixed channels numbers.now octets.now counts.now qualities.now frame.old frame.new result.second.number result.second.beside }
+    ensures written { result.second.number ≡ 0 → (result.first.number ≡ 0) × (result.first.beside ≡ result.second.beside) }
+    ensures enough { result.first.number ≡ 0 → nth numbers.now 9 * channels ≤ length counts.now → nth numbers.now 9 * channels ≤ length qualities.now → result.first.beside ≤ length frame.old
+        → (result.second.number ≡ number_of (refuse (not (all quality_fits (take (nth numbers.now 9 * channels) qualities.now))) bad_description (accepted result.first.beside)))
+        × (result.second.beside ≡ beside_it (λ n. n) (refuse (not (all quality_fits (take (nth numbers.now 9 * channels) qualities.now))) bad_description (accepted result.first.beside))) }
 {
-    let mut size = 0;
-    let first = hopsickle::hopsickle_size(numbers, octets, channels, fixed, &mut size);
-    let mut written = 0;
-    let second = hopsickle::hopsickle_write(
+    let mut beside = 0;
+    let number = hopsickle::hopsickle_size(numbers, octets, channels, fixed, &mut beside);
+    let first = Answer { number, beside };
+    let mut beside = 0;
+    let number = hopsickle::hopsickle_write(
         numbers,
         octets,
         channels,
@@ -228,12 +248,8 @@ pub fn size_then_write(
         counts,
         qualities,
         frame,
-        &mut written,
+        &mut beside,
     );
-    Answers {
-        first,
-        beside_first: size,
-        second,
-        beside_second: written,
-    }
+    let second = Answer { number, beside };
+    Answers { first, second }
 }

@@ -1,74 +1,110 @@
 // What a call answers, and what its line says that it has to.
-use crate::given;
-use crate::line::{WRONG, decimal, number_of, rest, word};
-use crate::words::{Words, number};
-use check::same;
+use crate::line::{LineError, Words, bits, choice, count, decimal};
+use rt_services::Refusal;
+use std::fmt;
 
-// The number of a refusal and its place; or 0 and the number beside accepted. `right` is whether the
-// call left in the lent arrays what it has to.
-#[derive(Clone, Copy)]
-pub struct Answer {
+// The number of a refusal, and its place.
+#[derive(Clone, Copy, PartialEq, Eq)]
+pub struct Refused {
     pub number: usize,
-    pub beside: usize,
-    pub right: bool,
+    pub place: usize,
 }
 
-// An answer whose arrays are right, or are looked at elsewhere.
+impl From<Refusal> for Refused {
+    fn from(r: Refusal) -> Refused {
+        Refused {
+            number: r.reason.number(),
+            place: r.place,
+        }
+    }
+}
+
+// What is answered alone or beside accepted; 1 is yes and 0 is no or nothing.
+#[derive(Clone, Copy, PartialEq, Eq)]
+pub enum Value {
+    Number(usize),
+    Bits(u32),
+    Count(i32),
+}
+
+impl fmt::Display for Value {
+    fn fmt<W: fmt::Write>(&self, f: &mut fmt::Formatter<W>) -> fmt::Result {
+        match self {
+            Value::Number(n) => write!(f, "{n}"),
+            Value::Bits(bits) => write!(f, "{bits:08x}"),
+            Value::Count(count) => write!(f, "{count}"),
+        }
+    }
+}
+
+pub type Answer = Result<Value, Refused>;
+
+// The answer of a function that hands back the number of a refusal or 0, and its place or a number
+// beside accepted.
 pub fn answered(number: usize, beside: usize) -> Answer {
-    Answer {
+    if number == 0 {
+        return Ok(Value::Number(beside));
+    }
+    Err(Refused {
         number,
-        beside,
-        right: true,
+        place: beside,
+    })
+}
+
+// An answer, and whether the call left in the lent arrays what it has to.
+#[derive(Clone, Copy)]
+pub struct Outcome {
+    pub answer: Answer,
+    pub is_right: bool,
+}
+
+impl From<Answer> for Outcome {
+    // Of a call that is lent no arrays.
+    fn from(answer: Answer) -> Outcome {
+        Outcome {
+            answer,
+            is_right: true,
+        }
     }
 }
 
-// Whether the answer is a number alone, or yes or no, with this letter of the table of lines.
-fn is_plain(letter: u8) -> bool {
-    letter == b'y' || letter == b'x' || letter == b'w'
+// The form in which a line says an answer.
+#[derive(Clone, Copy)]
+pub enum Form {
+    YesOrNo,
+    Bits,
+    Number,
+    // Accepted with a number or a count, or refused.
+    AcceptedNumber,
+    AcceptedCount,
+    // Accepted alone, beside which has to stand this number, or refused.
+    Accepted(usize),
 }
 
-// The number of the refusal that a line says, which isn't 0.
-fn refusal(text: &[u8]) -> usize {
-    let n = decimal(word(rest(text)));
-    if n != 0 && same(word(text), b"refused") {
-        return n;
+fn refusal(words: &mut Words) -> Result<Refused, LineError> {
+    let number = decimal(words.next())?;
+    let place = decimal(words.next())?;
+    if number == 0 {
+        return Err(LineError::NotUnderstood);
     }
-    WRONG
+    Ok(Refused { number, place })
 }
 
-// The place of the number beside accepted that a line doesn't say; none where it is 0.
-fn place_of(letter: u8) -> usize {
-    match letter {
-        b'o' => given::OCTETS,
-        b'v' => given::VALUES_LENGTH,
-        _ => given::NONE,
+impl Form {
+    // The answer that the words say.
+    pub fn said(self, mut words: Words) -> Result<Answer, LineError> {
+        let word = words.next();
+        let answer = match (self, word) {
+            (Form::YesOrNo, _) => Ok(Value::Number(usize::from(choice(word, "no", "yes")?))),
+            (Form::Bits, _) => Ok(Value::Bits(bits(word)?)),
+            (Form::Number, _) => Ok(Value::Number(decimal(word)?)),
+            (Form::Accepted(n), "accepted") => Ok(Value::Number(n)),
+            (Form::AcceptedNumber, "accepted") => Ok(Value::Number(decimal(words.next())?)),
+            (Form::AcceptedCount, "accepted") => Ok(Value::Count(count(words.next())?)),
+            (_, "refused") => Err(refusal(&mut words)?),
+            _ => return Err(LineError::NotUnderstood),
+        };
+        words.end()?;
+        Ok(answer)
     }
-}
-
-// The number beside accepted, with what follows accepted.
-fn accepted(letter: u8, text: &[u8], words: &Words) -> usize {
-    if letter == b'd' || letter == b'c' {
-        return number_of(letter, text);
-    }
-    if 0 < text.len() {
-        return WRONG;
-    }
-    number(words, place_of(letter))
-}
-
-// What a line says; WRONG where it isn't an answer.
-fn said(letter: u8, text: &[u8], words: &Words) -> Answer {
-    if is_plain(letter) {
-        return answered(0, number_of(letter, text));
-    }
-    if same(word(text), b"accepted") {
-        return answered(0, accepted(letter, rest(text), words));
-    }
-    answered(refusal(text), decimal(rest(rest(text))))
-}
-
-// Whether an answer is the one that a line says.
-pub fn is_said(answer: Answer, letter: u8, text: &[u8], words: &Words) -> bool {
-    let said = said(letter, text, words);
-    answer.right && answer.number == said.number && answer.beside == said.beside
 }

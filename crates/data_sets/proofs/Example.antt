@@ -1,6 +1,6 @@
 -- Additions and readings, where a data set is its number of channels; frames of one channel whose ASDUs have given confRevs.
 use Rattle.std.specs.Prelude.{◌≡◌, refl, List, [], ◌∷◌, ◌++◌, map, ℕ, zero, suc, take}
-use Rattle.std.proofs.Math.Option.{Option, some, none}
+use Rattle.std.specs.Prelude.{Option, Some, None}
 use Rattle.definition.specs.Frame.{Description, and, all}
 use Rattle.definition.specs.Read.{be_at, head_at, span_at, number_at, uint_at, text_at, refr_tm_at, gm_identity_at, has_at, optional_at, signed_of, samples_at, asdu_at, asdus_at, pdu_at, tagged, simulation_of, header_from, header_at}
 use Rattle.definition.specs.Placed.{no_asdu_at, start_at}
@@ -83,8 +83,8 @@ refused_so = refl
 
 -- the set handed back, where a frame is accepted
 abbrev handed : Answer (ℕ × (Description × ℕ)) → Option ℕ
-handed (accepted x) = some x.0
-handed (refusal k p) = none
+handed (accepted x) = Some x.0
+handed (refusal k p) = None
 
 -- the set of the confRev, of two; two ASDUs of one confRev
 pub accepted_so :
@@ -94,6 +94,6 @@ pub accepted_so :
     ∷ read_by channels ((7, 0) ∷ (9, 1) ∷ []) 2 2 (two 9 9)
     ∷ []
     )
-    ≡ some 0 ∷ some 1 ∷ some 1 ∷ []
+    ≡ Some 0 ∷ Some 1 ∷ Some 1 ∷ []
 unfolding frame asdu read_by read_with first_rev rev_from rev_at find one_rev all start_at no_asdu_at ordinary_read read_frame held_by described and head_at be_at span_at number_at uint_at text_at refr_tm_at gm_identity_at has_at optional_at signed_of samples_at asdu_at asdus_at pdu_at tagged simulation_of header_from header_at
 accepted_so = refl

@@ -2,7 +2,7 @@
 -- one relation between what they find is kept by each of them.
 use Rattle.std.specs.Prelude.{◌≡◌, List, [], ◌∷◌, Bool, true, false, cond, ◌⊎◌, length, ltb, eqb}
 use Rattle.std.proofs.Math.Path.{refl}
-use Rattle.std.proofs.Math.Option.{Option, some, none}
+use Rattle.std.specs.Prelude.{Option, Some, None}
 use Rattle.std.proofs.Common.{inl, inr, le-ltb, lt-ltb, ne_eqb}
 use Prim.Native.Nat.{ℕ, zero, suc, ◌*◌, ◌≤◌, ◌<◌}
 use native.Mathlib.Omega.{arith}
@@ -68,14 +68,14 @@ asdu_rev n s at =
 
 -- the first of these ASDUs has this confRev; or there are none
 abbrev pub Leads : Option ℕ → List Asdu → Type 0
-Leads none l = l ≡ []
-Leads (some rev) [] = ⊥
-Leads (some rev) (a ∷ l) = a.conf_rev ≡ rev
+Leads None l = l ≡ []
+Leads (Some rev) [] = ⊥
+Leads (Some rev) (a ∷ l) = a.conf_rev ≡ rev
 
 module _ (n : ℕ) (s : List ℕ) where
   -- the confRev of the first of k ASDUs
   abbrev of_first : ℕ → ℕ → Out (Option ℕ)
-  of_first k at = cond (eqb k 0) (got none at) (then (rev_at s at) (λ rev at. got (some rev) at))
+  of_first k at = cond (eqb k 0) (got None at) (then (rev_at s at) (λ rev at. got (Some rev) at))
 
   asdus_rev : (k at : ℕ) → Follows Leads (of_first k at) (asdus_at n k s at)
   unfolding asdus_at
@@ -85,8 +85,8 @@ module _ (n : ℕ) (s : List ℕ) where
       rw (ne_eqb (suc k) 0 h) (go (rev_at s at) (asdu_at n s at) (asdu_rev n s at))
     where
       go : (w : Out ℕ) (o : Out Asdu) → Follows (λ rev (a : Asdu). a.conf_rev ≡ rev) w o
-          → Follows Leads (then w (λ rev at. got (some rev) at)) (then o (λ a at. then (asdus_at n k s at) (λ l at. got (a ∷ l) at)))
-      go (got rev p) (got a at) e = when_then (Leads (some rev)) (asdus_at n k s at) (λ l at. got (a ∷ l) at) (λ l at. e)
+          → Follows Leads (then w (λ rev at. got (Some rev) at)) (then o (λ a at. then (asdus_at n k s at) (λ l at. got (a ∷ l) at)))
+      go (got rev p) (got a at) e = when_then (Leads (Some rev)) (asdus_at n k s at) (λ l at. got (a ∷ l) at) (λ l at. e)
       go (got rev p) (refused j q) e = tt
       go (refused j q) o e = rw e
 

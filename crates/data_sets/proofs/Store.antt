@@ -2,7 +2,7 @@
 -- has three outcomes, each with what it means of the store and the set; all else goes by these.
 use Rattle.std.proofs.Math.Path.{◌≡◌, refl}
 use mathlib.Core.List.{List, [], ◌∷◌, ◌++◌}
-use Rattle.std.proofs.Math.Option.{some}
+use Rattle.std.specs.Prelude.{Some}
 use Rattle.std.specs.Prelude.{Bool, not, ◌↔◌, ◌⊎◌, length, eqb}
 use Rattle.std.proofs.Math.Bool.{true, false, cond}
 use Rattle.std.proofs.Common.{inl, inr, arith}
@@ -48,17 +48,17 @@ module _ {A : Type 0} where
   rising_more (x ∷ l) y h g = (all_append (λ (z : ℕ × A). x.0 < z.0) l (y ∷ []) h.0 (g.0, tt), rising_more l y h.1 g.1)
 
   -- a set that is found is found among more
-  find_append : (l m : List (ℕ × A)) (rev : ℕ) (x : A) → find l rev ≡ some x → find (l ++ m) rev ≡ some x
+  find_append : (l m : List (ℕ × A)) (rev : ℕ) (x : A) → find l rev ≡ Some x → find (l ++ m) rev ≡ Some x
   unfolding find
   find_append [] m rev x e = let z : ◌≡◌ {A = ℕ} 0 1 = cc in absurd (omega arith)
   find_append (h ∷ l) m rev x e = go (eqb h.0 rev) (find_append l m rev x) e
     where
-      go : (t : Bool) → (find l rev ≡ some x → find (l ++ m) rev ≡ some x) → cond t (some h.1) (find l rev) ≡ some x → cond t (some h.1) (find (l ++ m) rev) ≡ some x
+      go : (t : Bool) → (find l rev ≡ Some x → find (l ++ m) rev ≡ Some x) → cond t (Some h.1) (find l rev) ≡ Some x → cond t (Some h.1) (find (l ++ m) rev) ≡ Some x
       go true i e = e
       go false i e = i e
 
   -- what is higher than all held is found where it was put
-  find_last : (l : List (ℕ × A)) (rev : ℕ) (x : A) → Below rev l → find (l ++ ((rev, x) ∷ [])) rev ≡ some x
+  find_last : (l : List (ℕ × A)) (rev : ℕ) (x : A) → Below rev l → find (l ++ ((rev, x) ∷ [])) rev ≡ Some x
   unfolding find All
   find_last [] rev x g = rw (eq-eqb rev rev refl)
   find_last (h ∷ l) rev x g =
@@ -66,12 +66,12 @@ module _ {A : Type 0} where
       rw (ne_eqb h.0 rev n) (find_last l rev x g.1)
 
   -- what is so of each set held is so of one that is found
-  find_each : (P : A → Type 0) (l : List (ℕ × A)) (rev : ℕ) (x : A) → All (λ (y : ℕ × A). P y.1) l → find l rev ≡ some x → P x
+  find_each : (P : A → Type 0) (l : List (ℕ × A)) (rev : ℕ) (x : A) → All (λ (y : ℕ × A). P y.1) l → find l rev ≡ Some x → P x
   unfolding find All
   find_each P [] rev x h e = let z : ◌≡◌ {A = ℕ} 0 1 = cc in absurd (omega arith)
   find_each P (y ∷ l) rev x h e = go (eqb y.0 rev) (find_each P l rev x h.1) e
     where
-      go : (t : Bool) → (find l rev ≡ some x → P x) → cond t (some y.1) (find l rev) ≡ some x → P x
+      go : (t : Bool) → (find l rev ≡ Some x → P x) → cond t (Some y.1) (find l rev) ≡ Some x → P x
       go true i e = let f : y.1 ≡ x = cc in rw f at h.0
       go false i e = i e
 
@@ -127,20 +127,20 @@ module _ {A : Type 0} (channels : A → ℕ) where
     refused_same e = rw e
 
     -- An addition that is taken is found under its confRev.
-    pub find_taken : {m : List (ℕ × A)} → add channels l rev x ≡ accepted m → find m rev ≡ some x
+    pub find_taken : {m : List (ℕ × A)} → add channels l rev x ≡ accepted m → find m rev ≡ Some x
     find_taken {m} e = go (add channels l rev x) outcome e
       where
-        go : (r : Answer (List (ℕ × A))) → Outcome l rev x r → r ≡ accepted m → find m rev ≡ some x
+        go : (r : Answer (List (ℕ × A))) → Outcome l rev x r → r ≡ accepted m → find m rev ≡ Some x
         go _ (taken f b c) e = let z : l ++ ((rev, x) ∷ []) ≡ m = cc in rw (← z) (find_last l rev x b)
         go _ (many f) e = let z : ◌≡◌ {A = ℕ} 0 1 = cc in absurd (omega arith)
         go _ (not_added f o) e = let z : ◌≡◌ {A = ℕ} 0 1 = cc in absurd (omega arith)
 
   -- What is found stays found after an addition, taken or refused.
-  pub find_added : (l : List (ℕ × A)) (y : ℕ × A) (rev : ℕ) (x : A) → find l rev ≡ some x → find (added channels l y) rev ≡ some x
+  pub find_added : (l : List (ℕ × A)) (y : ℕ × A) (rev : ℕ) (x : A) → find l rev ≡ Some x → find (added channels l y) rev ≡ Some x
   unfolding added
   find_added l y rev x e = go (add channels l y.0 y.1) (outcome l y.0 y.1)
     where
-      go : (r : Answer (List (ℕ × A))) → Outcome l y.0 y.1 r → find (kept l r) rev ≡ some x
+      go : (r : Answer (List (ℕ × A))) → Outcome l y.0 y.1 r → find (kept l r) rev ≡ Some x
       go _ (taken f b c) = find_append l (y ∷ []) rev x e
       go _ (many f) = e
       go _ (not_added f o) = e
@@ -178,5 +178,5 @@ module _ {A : Type 0} (channels : A → ℕ) where
   made ys = made_stored ys [] (record { rising = tt; few = omega arith; each = tt })
 
   -- So a set that is found has at most 24 channels.
-  pub made_fits : (ys : List (ℕ × A)) (rev : ℕ) (x : A) → find (stored channels [] ys) rev ≡ some x → channels x ≤ max_channels
+  pub made_fits : (ys : List (ℕ × A)) (rev : ℕ) (x : A) → find (stored channels [] ys) rev ≡ Some x → channels x ≤ max_channels
   made_fits ys rev x e = find_each (λ (x : A). channels x ≤ max_channels) (stored channels [] ys) rev x (made ys).each e

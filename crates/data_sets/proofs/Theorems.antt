@@ -4,7 +4,7 @@ use Rattle.std.specs.Prelude.{◌≡◌, Bool, not, ◌↔◌, ◌⊎◌, ℕ, �
 use Rattle.std.proofs.Math.Path.{refl}
 use Rattle.std.proofs.Common.{sym, ap, ◌∙◌, inl, inr, arith, eqb-true}
 use mathlib.Core.List.{List, [], ◌∷◌}
-use Rattle.std.proofs.Math.Option.{Option, some, none}
+use Rattle.std.specs.Prelude.{Option, Some, None}
 use Rattle.std.proofs.Math.Bool.{true, false}
 use Rattle.definition.specs.Limits.{max_channels, too_many_channels, no_set, other_conf_rev}
 use Rattle.definition.specs.Frame.{Asdu, Description, All}
@@ -22,15 +22,15 @@ use Rattle.data_sets.proofs.First.{Leads, Ordinary, ordinary, flat_ordinary, fir
 pub record HeldFor {A : Type 0} (l : List (ℕ × A)) (s : List ℕ) (x : A) : Type 0 where
   pub rev : ℕ
   pub place : ℕ
-  pub first : first_rev s ≡ got (some rev) place
-  pub held : find l rev ≡ some x
+  pub first : first_rev s ≡ got (Some rev) place
+  pub held : find l rev ≡ Some x
 
 -- there is no such set, or no ASDU
 pub record NotHeld {A : Type 0} (l : List (ℕ × A)) (s : List ℕ) : Type 0 where
   pub rev : Option ℕ
   pub place : ℕ
   pub first : first_rev s ≡ got rev place
-  pub held : find_for l rev ≡ none
+  pub held : find_for l rev ≡ None
 
 module _ {A : Type 0} (reading : A → Answer (Description × ℕ)) (l : List (ℕ × A)) (s : List ℕ) where
   -- the answers, and where each is given
@@ -53,14 +53,14 @@ module _ {A : Type 0} (reading : A → Answer (Description × ℕ)) (l : List (�
       read h (refusal k p) e = refuses h e
       read h (accepted d) e = one h d e (one_rev d.0.asdus) refl
 
-      on : (rev p : ℕ) → first_rev s ≡ got (some rev) p → (o : Option A) → find l rev ≡ o → Outcome (with_set reading o)
-      on rev p e none f = missing (record { rev = some rev; place = p; first = e; held = f })
-      on rev p e (some x) f = read (record { rev = rev; place = p; first = e; held = f }) (reading x) refl
+      on : (rev p : ℕ) → first_rev s ≡ got (Some rev) p → (o : Option A) → find l rev ≡ o → Outcome (with_set reading o)
+      on rev p e None f = missing (record { rev = Some rev; place = p; first = e; held = f })
+      on rev p e (Some x) f = read (record { rev = rev; place = p; first = e; held = f }) (reading x) refl
 
       go : (o : Out (Option ℕ)) → first_rev s ≡ o → Outcome (answer o (λ rev at. with_set reading (find_for l rev)))
       go (refused k p) e = before e
-      go (got none p) e = missing (record { rev = none; place = p; first = e; held = refl })
-      go (got (some rev) p) e = on rev p e (find l rev) refl
+      go (got None p) e = missing (record { rev = None; place = p; first = e; held = refl })
+      go (got (Some rev) p) e = on rev p e (find l rev) refl
 
   -- the answer with the set held
   with_held : {x : A} → HeldFor l s x → read_with reading l s ≡ beside x (of_one_rev (reading x))
@@ -74,7 +74,7 @@ pub record ByConfRev {A : Type 0} (channels : A → ℕ) (reading : ℕ → Answ
   -- (2) "with the set of its first ASDU's confRev; that set is handed back too": it is the one held under the confRev that every ASDU
   -- read has, and there is an ASDU.
   pub own_set : {x : A} {d : Description × ℕ} → r ≡ accepted (x, d)
-      → (rev : ℕ) × ((find l rev ≡ some x) × (All (λ (c : Asdu). c.conf_rev ≡ rev) d.0.asdus × (1 ≤ length d.0.asdus)))
+      → (rev : ℕ) × ((find l rev ≡ Some x) × (All (λ (c : Asdu). c.conf_rev ≡ rev) d.0.asdus × (1 ≤ length d.0.asdus)))
   -- (3) "15 after the first ASDU's confRev is read": what is refused up to and including it is refused so whatever the store holds, and
   -- ordinary reading with any set of up to 24 channels refuses it so.
   pub refused_first : {k p : ℕ} → first_rev s ≡ refused k p → (r ≡ refusal k p) × ((n : ℕ) → n ≤ max_channels → reading n ≡ refusal k p)
@@ -96,7 +96,7 @@ number_upto {most} h {k} {p} e = go (rw e at h)
     go : AnsweredUpto most {A = Description × ℕ} (refusal k p) → k ≤ most
     go (no_from_1 h) = h.1
 
-one_rev_lem : (rev : ℕ) (l : List Asdu) → one_rev l ≡ true → Leads (some rev) l → All (λ (c : Asdu). c.conf_rev ≡ rev) l × (1 ≤ length l)
+one_rev_lem : (rev : ℕ) (l : List Asdu) → one_rev l ≡ true → Leads (Some rev) l → All (λ (c : Asdu). c.conf_rev ≡ rev) l × (1 ≤ length l)
 unfolding one_rev All
 one_rev_lem rev [] t h = absurd h
 one_rev_lem rev (a ∷ l) t h =
@@ -112,7 +112,7 @@ module _ {A : Type 0} (channels : A → ℕ) {reading : ℕ → Answer (Descript
   no_number n e = number_upto (o.answered n) e
 
   own_set_of : (r : Answer (A × (Description × ℕ))) → Outcome of_set l s r → {x : A} {d : Description × ℕ} → r ≡ accepted (x, d)
-      → (of_set x ≡ accepted d) × ((rev : ℕ) × ((find l rev ≡ some x) × (All (λ (c : Asdu). c.conf_rev ≡ rev) d.0.asdus × (1 ≤ length d.0.asdus))))
+      → (of_set x ≡ accepted d) × ((rev : ℕ) × ((find l rev ≡ Some x) × (All (λ (c : Asdu). c.conf_rev ≡ rev) d.0.asdus × (1 ≤ length d.0.asdus))))
   own_set_of _ (before f) e = let z : ◌≡◌ {A = ℕ} 0 1 = cc in absurd (omega arith)
   own_set_of _ (missing f) e = let z : ◌≡◌ {A = ℕ} 0 1 = cc in absurd (omega arith)
   own_set_of _ (refuses h f) e = let z : ◌≡◌ {A = ℕ} 0 1 = cc in absurd (omega arith)
@@ -123,11 +123,11 @@ module _ {A : Type 0} (channels : A → ℕ) {reading : ℕ → Answer (Descript
       let z1 : c ≡ d = ap (λ (w : A × (Description × ℕ)). w.1) z in
       rw (← z0, ← z1) (f, (h.rev, (h.held, one_rev_lem h.rev c.0.asdus t (go (read_first o (channels y) f)))))
     where
-      go : (v : Option ℕ) × ((at : ℕ) × ((first_rev s ≡ got v at) × Leads v c.0.asdus)) → Leads (some h.rev) c.0.asdus
+      go : (v : Option ℕ) × ((at : ℕ) × ((first_rev s ≡ got v at) × Leads v c.0.asdus)) → Leads (Some h.rev) c.0.asdus
       go w =
           let g : first_rev s ≡ got w.0 w.1.0 = w.1.1.0 in
-          let f : first_rev s ≡ got (some h.rev) h.place = h.first in
-          let z : w.0 ≡ some h.rev = cc in
+          let f : first_rev s ≡ got (Some h.rev) h.place = h.first in
+          let z : w.0 ≡ Some h.rev = cc in
           rw z at w.1.1.1
 
   no_set_of : (r : Answer (A × (Description × ℕ))) → Outcome of_set l s r → r ≡ refusal no_set 0 → NotHeld l s
@@ -201,12 +201,12 @@ flat_no_8 channels ys a b c d s e = no_8_of channels (flat_ordinary a b c d s) y
 module _ {A : Type 0} (channels : A → ℕ) (reading : A → Answer (Description × ℕ)) (s : List ℕ) where
   set_same : (l : List (ℕ × A)) (y : ℕ × A) (o : Option ℕ) (r : Answer (A × (Description × ℕ))) → (r ≡ refusal no_set 0 → ⊥)
       → with_set reading (find_for l o) ≡ r → with_set reading (find_for (added channels l y) o) ≡ r
-  set_same l y none r h e = absurd (h (sym e))
-  set_same l y (some rev) r h e = go (find l rev) refl e
+  set_same l y None r h e = absurd (h (sym e))
+  set_same l y (Some rev) r h e = go (find l rev) refl e
     where
       go : (x : Option A) → find l rev ≡ x → with_set reading x ≡ r → with_set reading (find (added channels l y) rev) ≡ r
-      go none f e = absurd (h (sym e))
-      go (some x) f e = rw (find_added channels l y rev x f) e
+      go None f e = absurd (h (sym e))
+      go (Some x) f e = rw (find_added channels l y rev x f) e
 
   -- (9) An addition, taken or refused, to any store changes no answer but 15.
   pub added_same : (l : List (ℕ × A)) (y : ℕ × A) (r : Answer (A × (Description × ℕ))) → (r ≡ refusal no_set 0 → ⊥)

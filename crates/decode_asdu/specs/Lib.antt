@@ -1,5 +1,1 @@
 pub mod Answers
-pub mod Held
-pub mod Fields
-pub mod Groups
-pub mod Whole

@@ -1,10 +1,5 @@
-pub mod Steps
 pub mod Samples
 pub mod Asdus
 pub mod Pdu
-pub mod NoAsdu
-pub mod Start
-pub mod Outcome
-pub mod Opening
-pub mod Reading
+pub mod Told
 pub mod Frame

@@ -2,7 +2,7 @@
 -- accepts is written again, and one frame means one thing.
 use Rattle.std.specs.Prelude.{◌≡◌, refl, List, [], ◌∷◌, Bool, true, false, cond, ℕ, suc, ◌*◌, ◌≤◌, length, ltb, eqb}
 use Rattle.std.proofs.Common.{sym, ap, ◌∙◌, arith, le-ltb, ltb-false, eq-eqb, eqb-true}
-use Rattle.std.proofs.Math.Option.{Option, some, none}
+use Rattle.std.specs.Prelude.{Option, Some, None}
 use Rattle.definition.specs.Frame.{Description, Form, frame_octets, length_of, writable, Octets, Accepted}
 use Rattle.definition.specs.Limits.{not_as_written, no_room}
 use Rattle.definition.specs.Answers.{Answer, accepted, refusal, refuse, read_as, read_frame, held_by, ordinary_read, differ, unless_at, again, strict_read}
@@ -11,22 +11,22 @@ use Rattle.definition.proofs.Sound.{read_typed}
 
 -- ---- the comparison
 
-differ_none : (at : ℕ) (l : List ℕ) → differ at l l ≡ none
+differ_none : (at : ℕ) (l : List ℕ) → differ at l l ≡ None
 unfolding differ
 differ_none at [] = refl
 differ_none at (x ∷ l) = simp (eq-eqb x x refl, differ_none (suc at) l)
 
-none_some : {P : Type 0} (at : ℕ) → ◌≡◌ {A = Option ℕ} (some at) none → P
+none_some : {P : Type 0} (at : ℕ) → ◌≡◌ {A = Option ℕ} (Some at) None → P
 none_some at e = let z : ◌≡◌ {A = ℕ} 0 1 = cc in absurd (omega arith)
 
-differ_same : (at : ℕ) (l m : List ℕ) → differ at l m ≡ none → l ≡ m
+differ_same : (at : ℕ) (l m : List ℕ) → differ at l m ≡ None → l ≡ m
 unfolding differ
 differ_same at [] [] e = refl
 differ_same at [] (y ∷ m) e = none_some at e
 differ_same at (x ∷ l) [] e = none_some at e
 differ_same at (x ∷ l) (y ∷ m) e = go (eqb x y) refl e (differ_same (suc at) l m)
   where
-    go : (t : Bool) → eqb x y ≡ t → cond t (differ (suc at) l m) (some at) ≡ none → (differ (suc at) l m ≡ none → l ≡ m) → x ∷ l ≡ y ∷ m
+    go : (t : Bool) → eqb x y ≡ t → cond t (differ (suc at) l m) (Some at) ≡ None → (differ (suc at) l m ≡ None → l ≡ m) → x ∷ l ≡ y ∷ m
     go true f g h = let a = eqb-true x y f in let b = h g in cc
     go false f g h = none_some at g
 
@@ -60,8 +60,8 @@ strictly form n a b s d l e = on_read (read_frame n s) refl e
     on_differ : (d' : Description) (l' : ℕ) (o : Option ℕ) → differ 0 s (frame_octets form d') ≡ o
         → read_frame n s ≡ read_as d' l' → length d'.asdus * n ≤ a → length d'.asdus * n ≤ b → writable form d' ≡ true
         → unless_at o (read_as d' l') ≡ read_as d l → Strictly form n a b s d l
-    on_differ d' l' (some at) f r ha hb w e = no_way 6 at e
-    on_differ d' l' none f r ha hb w e =
+    on_differ d' l' (Some at) f r ha hb w e = no_way 6 at e
+    on_differ d' l' None f r ha hb w e =
         let x : d' ≡ d = (same_read d' d l' l e).0 in
         let y : read_frame n s ≡ read_as d l = r ∙ e in
         record { ordinary = y; counts = rw (← x) ha; qualities = rw (← x) hb; fits = rw (← x) w; same = rw (← x) (sym (differ_same 0 s (frame_octets form d') f)) }
@@ -88,7 +88,7 @@ unfolding strict_read ordinary_read held_by again
 strictly_so form n a b s d l h =
     let c : ltb a (length d.asdus * n) ≡ false = le-ltb _ _ h.counts in
     let q : ltb b (length d.asdus * n) ≡ false = le-ltb _ _ h.qualities in
-    let e : differ 0 s (frame_octets form d) ≡ none = rw h.same (differ_none 0 s) in
+    let e : differ 0 s (frame_octets form d) ≡ None = rw h.same (differ_none 0 s) in
     rw (h.ordinary, c, q, h.fits, e)
 
 -- ---- the theorems

@@ -14,22 +14,23 @@ fn put_vlan(frame: &mut [u8], at: usize, vlan: Vlan) -> usize
     requires { TagFits vlan × (at + length (tag_octets vlan) ≤ length frame.old) }
     ensures { Wrote frame.old at (tag_octets vlan) frame.new result }
 {
-    let Vlan::Tagged(_, tci) = vlan else {
-        return at;
-    };
-    let p = ber_encode::put_bytes(frame, at, &Vlan::TPID);
-    ber_encode::put_octets(frame, p, 2, tci as u32)
+    match vlan {
+        Vlan::Untagged => at,
+        Vlan::Tagged(_, tci) => {
+            let p = ber_encode::put_bytes(frame, at, &Vlan::TPID);
+            ber_encode::put_octets(frame, p, 2, tci as u32)
+        }
+    }
 }
 
 // Reserved 1 with the simulation mark, and reserved 2.
+#[tactic(auto, unfolding(definition::specs::Frame::reserved))]
 fn put_reserved(frame: &mut [u8], at: usize, sim: bool) -> usize
     requires { at + 4 ≤ length frame.old }
     ensures { Wrote frame.old at (reserved sim) frame.new result }
 {
-    if sim {
-        return ber_encode::put_bytes(frame, at, b"\x80\x00\x00\x00");
-    }
-    ber_encode::put_bytes(frame, at, b"\x00\x00\x00\x00")
+    let mark = if sim { 0x80 } else { 0x00 };
+    ber_encode::put_bytes(frame, at, &[mark, 0, 0, 0])
 }
 
 // How many octets the header is written in.
@@ -37,11 +38,10 @@ pub fn header_length(header: EthernetHeader) -> usize
     ensures octets { (sim : Bool) (len : ℕ) → result ≡ length (header_written header sim len) }
     ensures bound { result ≤ 26 }
 {
-    let vlan = header.vlan;
-    let Vlan::Tagged(_, _) = vlan else {
-        return 22;
-    };
-    26
+    match header.vlan {
+        Vlan::Untagged => 22,
+        Vlan::Tagged(_, _) => 26,
+    }
 }
 
 // The header with Length and the simulation mark, at the frame's start.
@@ -54,12 +54,9 @@ pub fn encode_ethernet_header(
     requires { (header_fits header ≡ true) × (length (header_written header sim len) ≤ length frame.old) }
     ensures { Wrote frame.old 0 (header_written header sim len) frame.new result }
 {
-    let dst_addr = header.dst_addr;
-    let src_addr = header.src_addr;
-    let vlan = header.vlan;
-    let p1 = ber_encode::put_bytes(frame, 0, &dst_addr);
-    let p2 = ber_encode::put_bytes(frame, p1, &src_addr);
-    let p3 = put_vlan(frame, p2, vlan);
+    let p1 = ber_encode::put_bytes(frame, 0, &header.dst_addr);
+    let p2 = ber_encode::put_bytes(frame, p1, &header.src_addr);
+    let p3 = put_vlan(frame, p2, header.vlan);
     let p4 = ber_encode::put_bytes(frame, p3, &EthernetHeader::SMV);
     let p5 = ber_encode::put_octets(frame, p4, 2, header.appid as u32);
     let p6 = ber_encode::put_octets(frame, p5, 2, len as u32);

@@ -1,15 +1,8 @@
--- The record that reading a header answers: definitions only.
-use Rattle.std.specs.Prelude.{ℕ}
-use Rattle.definition.specs.Read.{Out, got, refused, Header, blank_header}
-use Rattle.rt_services.specs.Describe.{header_record}
-use Rattle.ber_decode.specs.declared.Outcome.TheVariants as outcome
-use Rattle.ethernet_header.specs.declared.HeaderRead.{HeaderRead}
+-- What a reader of a frame begins with: definitions only.
+use Rattle.std.specs.Prelude.{List, ℕ, cond, ltb}
+use Rattle.definition.specs.Limits.{max_channels, too_many_channels}
+use Rattle.definition.specs.Read.{Out, refused, Header, header_at}
 
--- "A refusal carries a number and a place": all else is zero
-unfoldable pub no_header : ℕ → ℕ → HeaderRead
-no_header number place = record { outcome = outcome.Refused (record { number = number; place = place }); header = header_record blank_header }
-
--- every field of the header, and the place after it
-unfoldable pub header_read : Out Header → HeaderRead
-header_read (got h at) = record { outcome = outcome.Next (record { at = at }); header = header_record h }
-header_read (refused number place) = no_header number place
+-- "8: more than 24 channels", then the header
+abbrev pub opened_at : ℕ → List ℕ → Out Header
+opened_at n s = cond (ltb max_channels n) (refused too_many_channels 0) (header_at s)

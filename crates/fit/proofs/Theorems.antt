@@ -1,7 +1,7 @@
 -- What checked reading has to do with ordinary and with strict reading, for records and for flat arrays.
 use Rattle.std.specs.Prelude.{◌≡◌, refl, List, [], ◌∷◌, ◌++◌, map, Bool, true, false, cond, ℕ, ◌*◌, length, ltb, eqb}
 use Rattle.std.proofs.Common.{sym, ap, ◌∙◌, arith, eq-eqb, eqb-true}
-use Rattle.std.proofs.Math.Option.{Option, some, none}
+use Rattle.std.specs.Prelude.{Option, Some, None}
 use Rattle.std.proofs.lemmas.Bool.{eqb-false}
 use Rattle.definition.specs.Limits.{max_channels, no_room, not_as_written, too_many_channels, lengths_differ}
 use Rattle.definition.specs.Frame.{Description, Form, All, Octets, Accepted, writable, frame_octets}
@@ -29,29 +29,29 @@ pub record Checks (n : ℕ) (s : List ℕ) (read check : Answer (Description × 
   -- and what checked reading refuses with anything but 13, ordinary reading refuses so
   pub else : {k p : ℕ} → check ≡ refusal k p → (k ≡ lengths_differ → ⊥) → read ≡ refusal k p
   -- 13 is answered where ordinary reading accepts and lengths differ, with the place of the earliest,
-  pub differs : {x : Description × ℕ} {p : ℕ} → read ≡ accepted x → misfit_in n s ≡ some p → check ≡ refusal lengths_differ p
+  pub differs : {x : Description × ℕ} {p : ℕ} → read ≡ accepted x → misfit_in n s ≡ Some p → check ≡ refusal lengths_differ p
   -- and nowhere else
-  pub only : {p : ℕ} → check ≡ refusal lengths_differ p → (x : Description × ℕ) × ((read ≡ accepted x) × (misfit_in n s ≡ some p))
+  pub only : {p : ℕ} → check ≡ refusal lengths_differ p → (x : Description × ℕ) × ((read ≡ accepted x) × (misfit_in n s ≡ Some p))
   -- what ordinary reading accepts, checked reading accepts where no lengths differ,
-  pub fits : {x : Description × ℕ} → read ≡ accepted x → misfit_in n s ≡ none → check ≡ accepted x
+  pub fits : {x : Description × ℕ} → read ≡ accepted x → misfit_in n s ≡ None → check ≡ accepted x
   -- and only there
-  pub fits_only : {x : Description × ℕ} → check ≡ accepted x → misfit_in n s ≡ none
+  pub fits_only : {x : Description × ℕ} → check ≡ accepted x → misfit_in n s ≡ None
 
 module _ (n : ℕ) (s : List ℕ) where
-  accepted_of : (o : Option ℕ) (r : Answer (Description × ℕ)) {x : Description × ℕ} → checked o r ≡ accepted x → (r ≡ accepted x) × (o ≡ none)
+  accepted_of : (o : Option ℕ) (r : Answer (Description × ℕ)) {x : Description × ℕ} → checked o r ≡ accepted x → (r ≡ accepted x) × (o ≡ None)
   accepted_of o (refusal k p) e = no_way e
-  accepted_of none (accepted y) e = (e, refl)
-  accepted_of (some p) (accepted y) e = no_way e
+  accepted_of None (accepted y) e = (e, refl)
+  accepted_of (Some p) (accepted y) e = no_way e
 
   else_of : (o : Option ℕ) (r : Answer (Description × ℕ)) {k p : ℕ} → checked o r ≡ refusal k p → (k ≡ lengths_differ → ⊥) → r ≡ refusal k p
   else_of o (refusal j q) e f = e
-  else_of none (accepted y) e f = no_way (sym e)
-  else_of (some q) (accepted y) {k} e f = let z : lengths_differ ≡ k = cc in absurd (f (sym z))
+  else_of None (accepted y) e f = no_way (sym e)
+  else_of (Some q) (accepted y) {k} e f = let z : lengths_differ ≡ k = cc in absurd (f (sym z))
 
-  only_of : (o : Option ℕ) (r : Answer (Description × ℕ)) → AnsweredUpto 8 r → {p : ℕ} → checked o r ≡ refusal lengths_differ p → (x : Description × ℕ) × ((r ≡ accepted x) × (o ≡ some p))
+  only_of : (o : Option ℕ) (r : Answer (Description × ℕ)) → AnsweredUpto 8 r → {p : ℕ} → checked o r ≡ refusal lengths_differ p → (x : Description × ℕ) × ((r ≡ accepted x) × (o ≡ Some p))
   only_of o (refusal k q) (no_from_1 h) e = let z : k ≡ lengths_differ = cc in absurd (omega (arith, h.1))
-  only_of none (accepted y) h e = no_way (sym e)
-  only_of (some q) (accepted y) h {p} e = let z : q ≡ p = cc in (y, (refl, ap some z))
+  only_of None (accepted y) h e = no_way (sym e)
+  only_of (Some q) (accepted y) h {p} e = let z : q ≡ p = cc in (y, (refl, ap Some z))
 
   checks_of : (r : Answer (Description × ℕ)) → AnsweredUpto 8 r → Checks n s r (checked (misfit_in n s) r)
   checks_of r h = record {
@@ -117,12 +117,12 @@ pub record Earliest (n : ℕ) (l : List Placed) (p : ℕ) : Type 0 where
   pub place : p ≡ asdu.place
 
 -- (4) What is found is the earliest such ASDU; where nothing is found, all lengths are 8 times the channels.
-pub earliest : (n : ℕ) (l : List Placed) (p : ℕ) → misfit n l ≡ some p → Earliest n l p
+pub earliest : (n : ℕ) (l : List Placed) (p : ℕ) → misfit n l ≡ Some p → Earliest n l p
 unfolding misfit All
 earliest n [] p e = let z : ◌≡◌ {A = ℕ} 0 1 = cc in absurd (omega arith)
 earliest n (x ∷ l) p e = go (eqb x.size (8 * n)) refl e (earliest n l p)
   where
-    go : (t : Bool) → eqb x.size (8 * n) ≡ t → cond t (misfit n l) (some x.place) ≡ some p → (misfit n l ≡ some p → Earliest n l p) → Earliest n (x ∷ l) p
+    go : (t : Bool) → eqb x.size (8 * n) ≡ t → cond t (misfit n l) (Some x.place) ≡ Some p → (misfit n l ≡ Some p → Earliest n l p) → Earliest n (x ∷ l) p
     go true f e rest =
         let r = rest e in
         record { before = x ∷ r.before; asdu = r.asdu; after = r.after; is = ap (λ (m : List Placed). x ∷ m) r.is; fit = (eqb-true _ _ f, r.fit); differs = r.differs; place = r.place }
@@ -130,16 +130,16 @@ earliest n (x ∷ l) p e = go (eqb x.size (8 * n)) refl e (earliest n l p)
         let z : x.place ≡ p = cc in
         record { before = []; asdu = x; after = l; is = refl; fit = tt; differs = eqb-false _ _ f; place = sym z }
 
-pub all_fit : (n : ℕ) (l : List Placed) → misfit n l ≡ none → All (Fits n) l
+pub all_fit : (n : ℕ) (l : List Placed) → misfit n l ≡ None → All (Fits n) l
 unfolding misfit All
 all_fit n [] e = tt
 all_fit n (x ∷ l) e = go (eqb x.size (8 * n)) refl e (all_fit n l)
   where
-    go : (t : Bool) → eqb x.size (8 * n) ≡ t → cond t (misfit n l) (some x.place) ≡ none → (misfit n l ≡ none → All (Fits n) l) → Fits n x × All (Fits n) l
+    go : (t : Bool) → eqb x.size (8 * n) ≡ t → cond t (misfit n l) (Some x.place) ≡ None → (misfit n l ≡ None → All (Fits n) l) → Fits n x × All (Fits n) l
     go true f e rest = (eqb-true _ _ f, rest e)
     go false f e rest = let z : ◌≡◌ {A = ℕ} 0 1 = cc in absurd (omega arith)
 
-pub none_found : (n : ℕ) (l : List Placed) → All (λ (x : Placed). x.size ≡ n * 8) l → misfit n l ≡ none
+pub none_found : (n : ℕ) (l : List Placed) → All (λ (x : Placed). x.size ≡ n * 8) l → misfit n l ≡ None
 unfolding misfit All
 none_found n [] h = refl
 none_found n (x ∷ l) h = rw (eq-eqb x.size (8 * n) (omega (arith, h.0))) (none_found n l h.1)
@@ -147,14 +147,14 @@ none_found n (x ∷ l) h = rw (eq-eqb x.size (8 * n) (omega (arith, h.0))) (none
 -- ---- checked reading and strict reading
 
 -- in the frame of an accepted description, in either form, no lengths differ
-written_fits : (form : Form) (n : ℕ) (d : Description) → Accepted form n d → misfit_in n (frame_octets form d) ≡ none
+written_fits : (form : Form) (n : ℕ) (d : Description) → Accepted form n d → misfit_in n (frame_octets form d) ≡ None
 unfolding misfit_in asdus_in
 written_fits form n d a =
     let w = written_back form n d a in
     rw (w.header.head, w.pdu.start, w.pdu.asdus.is) (none_found n w.pdu.asdus.asdus w.pdu.asdus.sizes)
 
 module _ (form : Form) (n a b : ℕ) (s : List ℕ) (bytes : Octets s) (d : Description) (l : ℕ) where
-  strict_none : strict_read form n a b s ≡ read_as d l → misfit_in n s ≡ none
+  strict_none : strict_read form n a b s ≡ read_as d l → misfit_in n s ≡ None
   strict_none e =
       let h = accepted_is_frame form n a b s bytes d l e in
       ap (misfit_in n) (sym h.3) ∙ written_fits form n d h.0
@@ -170,8 +170,8 @@ again_before form s (refusal k p) x e = no_way e
 again_before form s (accepted y) x e = let z : y ≡ x = go (writable form y.0) (differ 0 s (frame_octets form y.0)) e in (ap accepted z, rw z at e)
   where
     go : (t : Bool) (o : Option ℕ) → cond t (unless_at o (accepted y)) (refusal not_as_written 0) ≡ accepted x → y ≡ x
-    go true none e = cc
-    go true (some p) e = no_way e
+    go true None e = cc
+    go true (Some p) e = no_way e
     go false o e = no_way e
 
 held_before : (a b : ℕ) (r : Answer (Description × ℕ)) (x : Description × ℕ) → flat_held a b r ≡ accepted x → r ≡ accepted x

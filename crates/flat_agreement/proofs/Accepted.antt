@@ -2,7 +2,7 @@
 use Rattle.std.proofs.Math.Path.{◌≡◌, refl}
 use Rattle.std.proofs.Common.{sym, ap, ◌∙◌, arith}
 use Rattle.std.specs.Prelude.{List, [], ◌∷◌, Bool, true, false, not, length, ℤ, leb, ltb}
-use Rattle.std.proofs.Math.Option.{Option, some, none}
+use Rattle.std.specs.Prelude.{Option, Some, None}
 use Prim.Native.Nat.{ℕ, ◌*◌, ◌≤◌}
 use borrow.Author.Tests.{le-ltb, ltb-false, le-leb, leb-true, not-false}
 use Rattle.definition.specs.Limits.{max_channels, max_text, max_security, max_pdu, no_room, too_many_channels, bad_description, too_long_to_write}
@@ -19,8 +19,8 @@ use Rattle.flat_agreement.specs.Lent.{Lent, lent_typed}
 
 held_short : (m : ℕ) (o : Option (List ℕ)) → held (λ (l : List ℕ). leb (length l) m) o ≡ true → Held (λ (l : List ℕ). length l ≤ m) o
 unfolding held Held
-held_short m none e = tt
-held_short m (some l) e = leb-true (length l) m e
+held_short m None e = tt
+held_short m (Some l) e = leb-true (length l) m e
 
 asdus_short : (l : List Asdu) → all asdu_fits l ≡ true → All AsduShort l
 unfolding all asdu_fits All

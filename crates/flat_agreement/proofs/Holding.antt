@@ -1,6 +1,6 @@
 -- Arrays of just a description: their elements keep to the types of the arrays, and the writer takes them.
 use mathlib.Core.List.{List, [], ◌∷◌}
-use Rattle.std.proofs.Math.Option.{Option, some, none}
+use Rattle.std.specs.Prelude.{Option, Some, None}
 use Rattle.std.specs.Prelude.{Bool, true, false, ℕ, ◌≤◌, ◌<◌, length}
 use Rattle.std.proofs.Common.{arith, lit<}
 use Rattle.definition.specs.Limits.{max_text, max_security, max_asdus}
@@ -14,8 +14,8 @@ use Rattle.flat_agreement.specs.Lent.{Lent}
 -- ---- numbers
 
 mark_word : {A : Type 0} (o : Option A) → Word (mark o)
-mark_word none = lit< tt
-mark_word (some x) = lit< tt
+mark_word None = lit< tt
+mark_word (Some x) = lit< tt
 
 bit_word : (b : Bool) → Word (simulation_mark b)
 bit_word false = lit< tt
@@ -23,18 +23,18 @@ bit_word true = lit< tt
 
 number_word : (o : Option ℕ) → Held (λ (v : ℕ). v < 65536) o → Word (or_else 0 o)
 unfolding Held
-number_word none h = lit< tt
-number_word (some v) h = omega arith
+number_word None h = lit< tt
+number_word (Some v) h = omega arith
 
 length_word : (m : ℕ) → m < 65536 → (o : Option (List ℕ)) → Held (λ (l : List ℕ). length l ≤ m) o → Word (length (or_else [] o))
 unfolding Held
-length_word m b none h = lit< tt
-length_word m b (some l) h = omega arith
+length_word m b None h = lit< tt
+length_word m b (Some l) h = omega arith
 
 vlan_word : (o : Option (ℕ × ℕ)) → Held Tag o → Word (or_else (0, 0) o).0 × Word (or_else (0, 0) o).1
 unfolding Held
-vlan_word none h = (lit< tt, lit< tt)
-vlan_word (some v) h = (omega (arith, h.tpid), omega (arith, h.tci))
+vlan_word None h = (lit< tt, lit< tt)
+vlan_word (Some v) h = (omega (arith, h.tpid), omega (arith, h.tci))
 
 asdu_words : (n : ℕ) (a : Asdu) → AsduTyped n a → AsduShort a → All Word (numbers_of_asdu a)
 unfolding numbers_of_asdu All
@@ -90,13 +90,13 @@ head_words n d len t s l few = (
 
 or_octets : (o : Option (List ℕ)) → Held Octets o → Octets (or_else [] o)
 unfolding Held All
-or_octets none h = tt
-or_octets (some l) h = h
+or_octets None h = tt
+or_octets (Some l) h = h
 
 eight_octets : (o : Option (List ℕ)) → Held (Of 8) o → Octets (or_else [] o)
 unfolding Held All
-eight_octets none h = tt
-eight_octets (some l) h = h.each
+eight_octets None h = tt
+eight_octets (Some l) h = h.each
 
 asdu_octets_lem : (n : ℕ) (a : Asdu) → AsduTyped n a → Octets (octets_of_asdu a)
 unfolding octets_of_asdu

@@ -1,9 +1,2 @@
-pub mod Opened
-pub mod Numbers
-pub mod Spans
-pub mod Stores
 pub mod Found
-pub mod Gathered
-pub mod Judged
 pub mod Told
-pub mod Frame

@@ -1,5 +1,2 @@
 pub mod Records
 pub mod Checked
-pub mod Described
-pub mod Sized
-pub mod Values

@@ -1,3 +1,1 @@
 pub mod Own
-pub mod Strict
-pub mod Found

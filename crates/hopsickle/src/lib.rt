@@ -1,7 +1,8 @@
-// The functions that programs in C and Rust call. Descriptions cross in two arrays, one of numbers
-// and one of octets, whose places are in the crate layout. Each function answers the number of a
-// refusal, or 0, and writes its place, or the size of what it wrote, through the last parameter. A
-// refusal changes none of the arrays.
+// The calls of the static library, under the names that C and Rust have for them. Descriptions cross
+// in two arrays, one of numbers and one of octets, whose places are in the crate layout. Each function
+// answers the number of a refusal, or 0, and writes its place, or the size of what it wrote, through
+// the last parameter: numbers, arrays side by side and a function for each call, since that is what C
+// has. A refusal changes none of the arrays.
 // `fixed` is the form of the counters: fixed, or else shortest.
 #![tactic(auto)]
 
@@ -20,16 +21,14 @@ use rt_services::SavDataSetConfig;
 use set_store::DataSets;
 
 // Whether the EtherType is there, and is that of sampled values.
-#[unsafe(no_mangle)]
-pub extern "C" fn hopsickle_is_smv(frame: &[u8]) -> bool
+pub fn hopsickle_is_smv(frame: &[u8]) -> bool
     ensures { result ≡ is_smv_frame frame.now }
 {
     ethernet_header::is_smv_frame(frame)
 }
 
 // The header: the first 6 numbers and the first 12 octets, and the place after it.
-#[unsafe(no_mangle)]
-pub extern "C" fn hopsickle_header(
+pub fn hopsickle_header(
     frame: &[u8],
     numbers: &mut [u32],
     octets: &mut [u8],
@@ -38,12 +37,11 @@ pub extern "C" fn hopsickle_header(
     ensures { ReadsHeader (flat_header (length numbers.old) (length octets.old) frame.now)
         numbers.old numbers.new octets.old octets.new result place.new }
 {
-    calls::header(frame, numbers, octets, place)
+    calls::answer(calls::header(frame, numbers, octets), place)
 }
 
 // A frame, the ordinary way.
-#[unsafe(no_mangle)]
-pub extern "C" fn hopsickle_read(
+pub fn hopsickle_read(
     frame: &[u8],
     channels: usize,
     numbers: &mut [u32],
@@ -56,13 +54,12 @@ pub extern "C" fn hopsickle_read(
         numbers.old numbers.new octets.old octets.new counts.old counts.new qualities.old qualities.new result place.new }
 {
     let read = flat_decode::read_frame(frame, channels, numbers, octets, counts, qualities);
-    calls::answer(read, place)
+    calls::answer(read.and(Ok(0)), place)
 }
 
 // A frame, the ordinary way, if the data set fits it: in every ASDU the length after 87 is 8 times the
 // channels.
-#[unsafe(no_mangle)]
-pub extern "C" fn hopsickle_read_checked(
+pub fn hopsickle_read_checked(
     frame: &[u8],
     channels: usize,
     numbers: &mut [u32],
@@ -75,12 +72,11 @@ pub extern "C" fn hopsickle_read_checked(
         numbers.old numbers.new octets.old octets.new counts.old counts.new qualities.old qualities.new result place.new }
 {
     let read = flat_checked::read_checked(frame, channels, numbers, octets, counts, qualities);
-    calls::answer(read, place)
+    calls::answer(read.and(Ok(0)), place)
 }
 
 // A PDU from a place on; the header's numbers and octets are zero.
-#[unsafe(no_mangle)]
-pub extern "C" fn hopsickle_decode(
+pub fn hopsickle_decode(
     frame: &[u8],
     at: usize,
     channels: usize,
@@ -94,12 +90,11 @@ pub extern "C" fn hopsickle_decode(
         numbers.old numbers.new octets.old octets.new counts.old counts.new qualities.old qualities.new result place.new }
 {
     let read = flat_decode::decode_smv(frame, at, channels, numbers, octets, counts, qualities);
-    calls::answer(read, place)
+    calls::answer(read.and(Ok(0)), place)
 }
 
 // A frame, if it is what the writer writes of what was read.
-#[unsafe(no_mangle)]
-pub extern "C" fn hopsickle_read_strict(
+pub fn hopsickle_read_strict(
     frame: &[u8],
     channels: usize,
     fixed: bool,
@@ -113,13 +108,12 @@ pub extern "C" fn hopsickle_read_strict(
         numbers.old numbers.new octets.old octets.new counts.old counts.new qualities.old qualities.new result place.new }
 {
     let read = flat_strict::read_strict(frame, channels, fixed, numbers, octets, counts, qualities);
-    calls::answer(read, place)
+    calls::answer(read.and(Ok(0)), place)
 }
 
 // A frame, the ordinary way, for a customer: the counts and quality words of the channels that the
 // mask shows, and of no other.
-#[unsafe(no_mangle)]
-pub extern "C" fn hopsickle_read_granted(
+pub fn hopsickle_read_granted(
     frame: &[u8],
     channels: usize,
     mask: u32,
@@ -135,13 +129,12 @@ pub extern "C" fn hopsickle_read_granted(
     let read = flat_granted::read_granted(
         frame, channels, mask, numbers, octets, counts, qualities,
     );
-    calls::answer(read, place)
+    calls::answer(read.and(Ok(0)), place)
 }
 
 // Adds a data set to those of a store: one scale factor for each channel. Writes how many sets the
 // store then holds.
-#[unsafe(no_mangle)]
-pub extern "C" fn hopsickle_sets_add(
+pub fn hopsickle_sets_add(
     sets: &mut [u32; DataSets::NUMBERS],
     set_scales: &mut [f32; DataSets::SCALES],
     conf_rev: u32,
@@ -150,13 +143,12 @@ pub extern "C" fn hopsickle_sets_add(
 ) -> usize
     ensures { Adds conf_rev (data_set_of scales.now) sets.old sets.new set_scales.old set_scales.new result held.new }
 {
-    calls::sets_add(sets, set_scales, conf_rev, scales, held)
+    calls::answer(calls::sets_add(sets, set_scales, conf_rev, scales), held)
 }
 
 // A frame, the ordinary way, with the data set of its first ASDU's confRev, whose channels and scale
 // factors are handed back.
-#[unsafe(no_mangle)]
-pub extern "C" fn hopsickle_read_by_sets(
+pub fn hopsickle_read_by_sets(
     frame: &[u8],
     sets: &[u32; DataSets::NUMBERS],
     set_scales: &[f32; DataSets::SCALES],
@@ -174,12 +166,11 @@ pub extern "C" fn hopsickle_read_by_sets(
     let read = flat_by_sets::read_by_sets(
         frame, sets, set_scales, channels, scales, numbers, octets, counts, qualities,
     );
-    calls::answer(read, place)
+    calls::answer(read.and(Ok(0)), place)
 }
 
 // Writes the frame of a description with these counts and quality words.
-#[unsafe(no_mangle)]
-pub extern "C" fn hopsickle_write(
+pub fn hopsickle_write(
     numbers: &[u32],
     octets: &[u8],
     channels: usize,
@@ -192,14 +183,15 @@ pub extern "C" fn hopsickle_write(
     ensures { Writes (flat_encode fixed channels numbers.now octets.now counts.now qualities.now (length frame.old))
         (frame_octets fixed (flat_description channels numbers.now octets.now counts.now qualities.now)) frame.old frame.new result size.new }
 {
-    let w = flat_encode::encode_smv(numbers, octets, channels, fixed, counts, qualities, frame);
-    calls::written(w, size)
+    let written = flat_encode::encode_smv(
+        numbers, octets, channels, fixed, counts, qualities, frame,
+    );
+    calls::answer(written, size)
 }
 
 // Writes the frame of a description whose counts are those of the values: one scale factor for
 // each channel.
-#[unsafe(no_mangle)]
-pub extern "C" fn hopsickle_write_values(
+pub fn hopsickle_write_values(
     numbers: &[u32],
     octets: &[u8],
     scales: &[f32],
@@ -212,13 +204,14 @@ pub extern "C" fn hopsickle_write_values(
     ensures { Writes (flat_encode_values fixed (length scales.now) numbers.now octets.now (length values.now) (flat_counts numbers.now scales.now values.now) (flat_counts_given numbers.now scales.now values.now) qualities.now (length frame.old))
         (frame_octets fixed (flat_described_by numbers.now octets.now scales.now values.now qualities.now)) frame.old frame.new result size.new }
 {
-    let w = flat_encode::encode_values(numbers, octets, scales, fixed, values, qualities, frame);
-    calls::written(w, size)
+    let written = flat_encode::encode_values(
+        numbers, octets, scales, fixed, values, qualities, frame,
+    );
+    calls::answer(written, size)
 }
 
 // How many octets the frame of a description is written in.
-#[unsafe(no_mangle)]
-pub extern "C" fn hopsickle_size(
+pub fn hopsickle_size(
     numbers: &[u32],
     octets: &[u8],
     channels: usize,
@@ -228,13 +221,14 @@ pub extern "C" fn hopsickle_size(
     ensures { (result ≡ number_of (flat_size fixed channels numbers.now octets.now))
         × (size.new ≡ beside_it (λ n. n) (flat_size fixed channels numbers.now octets.now)) }
 {
-    let w = flat_encode::smv_size(numbers, octets, channels, fixed);
-    calls::written(w, size)
+    calls::answer(
+        flat_encode::smv_size(numbers, octets, channels, fixed),
+        size,
+    )
 }
 
 // The values of the counts of no_asdu ASDUs: one scale factor for each channel.
-#[unsafe(no_mangle)]
-pub extern "C" fn hopsickle_values(
+pub fn hopsickle_values(
     scales: &[f32],
     no_asdu: u16,
     counts: &[i32],
@@ -244,5 +238,5 @@ pub extern "C" fn hopsickle_values(
     ensures { Writes (values_answer (length scales.now) no_asdu (length counts.now) (length values.old))
         (values_of (length scales.now) scales.now counts.now (no_asdu * length scales.now)) values.old values.new result size.new }
 {
-    calls::values(scales, no_asdu, counts, values, size)
+    calls::answer(calls::values(scales, no_asdu, counts, values), size)
 }

@@ -1,23 +1,15 @@
 // Frames of generated descriptions.
 use crate::Frame;
 use crate::draw::{below, draw};
-use rt_services::{
-    EthernetHeader, OptionalU16, Presence, SavAsdu, SavDataSetConfig, SavPdu, Vlan, Written,
-};
-
-// The first n octets, or all where there are fewer.
-pub fn first(s: &[u8], n: usize) -> &[u8] {
-    if n <= s.len() {
-        return &s[..n];
-    }
-    s
-}
+use decode_smv::samples::signed;
+use rt_services::{EthernetHeader, Presence, SavAsdu, SavDataSetConfig, SavPdu, Vlan};
+use std::array;
 
 fn header(k: u32) -> EthernetHeader {
-    let mut vlan = Vlan::Untagged;
-    if below(k, 10, 2) != 0 {
-        vlan = Vlan::Tagged(0x8100, 0x6005);
-    }
+    let vlan = match below(k, 10, 2) {
+        0 => Vlan::Untagged,
+        _ => Vlan::Tagged(0x8100, 0x6005),
+    };
     EthernetHeader {
         dst_addr: [0x01, 0x0c, 0xcd, 0x04, 0x00, 0x01],
         src_addr: [0, 0, 0, 0, 0, 2],
@@ -35,11 +27,11 @@ fn presence(k: u32, place: u32) -> Presence {
     Presence::Present
 }
 
-fn optional(k: u32, place: u32) -> OptionalU16 {
+fn optional(k: u32, place: u32) -> Option<u16> {
     if below(k, place, 2) == 0 {
-        return OptionalU16::Absent;
+        return None;
     }
-    OptionalU16::Present(0x1234)
+    Some(0x1234)
 }
 
 // Every ASDU of a frame is the same but for its samples.
@@ -69,7 +61,7 @@ fn pdu(k: u32, channels: u32) -> SavPdu {
         sav_asdu: [asdu(k); SavPdu::MAX_ASDUS],
         security_octets: [0x5e; SavPdu::MAX_SECURITY],
         security_len: below(k, 30, 9) as usize,
-        no_asdu: 1 + (below(k, 3, most % 8 + 1) % 8) as u16,
+        no_asdu: 1 + below(k, 3, most % 8 + 1) as u16,
         sim: below(k, 31, 2) == 1,
         security: presence(k, 32),
     }
@@ -78,52 +70,41 @@ fn pdu(k: u32, channels: u32) -> SavPdu {
 // The number that an element's count and quality word are drawn of: from one stream where the mask
 // shows its channel, else from another.
 fn sample(mask: u32, channels: u32, element: u32, shown: u32, hidden: u32) -> u32 {
-    if channels == 0 {
+    let is_shown = match element.checked_rem(channels) {
+        Some(channel) => channel < 24 && (mask >> channel) % 2 == 1,
+        None => true,
+    };
+    if is_shown {
         return draw(shown, element);
-    }
-    let channel = element % channels;
-    if channel < 24 {
-        if (mask >> channel) % 2 == 1 {
-            return draw(shown, element);
-        }
     }
     draw(hidden, element)
 }
 
 // The frame of description k, with shown samples of k and hidden ones of another stream.
 pub fn write(k: u32, channels: u32, mask: u32, hidden: u32) -> Frame {
-    let mut counts = [0; SavDataSetConfig::MAX_SAMPLES];
-    let mut words = [0; SavDataSetConfig::MAX_SAMPLES];
-    let mut i = 0;
-    while i < SavDataSetConfig::MAX_SAMPLES {
-        let x = sample(mask, channels, i as u32, k, hidden);
-        let count = decode_smv::samples::signed(x);
-        counts[i] = count;
-        words[i] = x % SavAsdu::QUALITY_LIMIT;
-        i += 1;
-    }
+    let samples: [u32; SavDataSetConfig::MAX_SAMPLES] = array::from_fn(|i| sample(
+        mask, channels, i as u32, k, hidden,
+    ));
     let mut octets = [0; SavPdu::MAX_FRAME];
     let written = encode_smv::encode_smv(
         header(k),
         pdu(k, channels),
         channels as usize,
         below(k, 33, 2) == 1,
-        &counts,
-        &words,
+        &samples.map(signed),
+        &samples.map(|x| x % SavAsdu::QUALITY_LIMIT),
         &mut octets,
     );
-    let mut size = 0;
-    if let Written::At(n) = written {
-        size = n;
+    Frame {
+        octets,
+        size: written.unwrap_or(0),
     }
-    Frame { octets, size }
 }
 
 // How many of a frame's n octets are read: all, or some.
 pub fn kept(k: u32, n: usize) -> usize {
-    let some = below(k, 5, 1600) as usize;
-    if below(k, 4, 2) == 0 || n < some {
+    if below(k, 4, 2) == 0 {
         return n;
     }
-    some
+    n.min(below(k, 5, 1600) as usize)
 }

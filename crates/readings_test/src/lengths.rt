@@ -1,61 +1,41 @@
 // One generated frame, whose lengths after 87 may have been changed, and how ordinary and checked
 // reading answer it.
 use crate::draw::{below, draw};
-use crate::frames::first;
-use crate::{Frame, Reading, Walked, frames, readings, walk};
-use rt_services::{Refusal, SavDataSetConfig, SavPdu};
+use crate::readings::reading;
+use crate::walk::{Walked, walk};
+use crate::{Arrays, Frame, Reading, frames};
+use rt_services::{Reason, SavDataSetConfig, SavPdu};
 
-// Places among the counts: of all frames; of those that both accept, with the same in the arrays, where every
-// length fits; that checked reading refuses 13 in the first ASDU, or in a later one, where ordinary
-// reading accepts; that both refuse with one number and place; and of those with any other answer.
-// A refusal leaves the arrays.
-pub const ALL: usize = 5;
+// How a frame is answered. Both accept it, with the same in the arrays, where every length fits; checked
+// reading refuses it 13 in the first ASDU, or in a later one, where ordinary reading accepts it; both
+// refuse it with one number and place; or any other way. A refusal leaves the arrays.
+#[derive(Clone, Copy)]
+pub enum Class {
+    Accepted,
+    First,
+    Later,
+    Refused,
+    Wrong,
+}
 
-const ACCEPTED: usize = 6;
-
-const FIRST: usize = 7;
-
-const LATER: usize = 8;
-
-const REFUSED: usize = 9;
-
-const WRONG: usize = 10;
-
-// Where a frame with these answers is counted.
-fn class(ordinary: Reading, checked: Reading, walked: Walked) -> usize {
-    let mut number = ordinary.number;
-    let mut place = ordinary.place;
-    let mut class = REFUSED;
-    if number == 0 {
-        let asdu = walked.misfit;
-        class = ACCEPTED;
-        if asdu < SavPdu::MAX_ASDUS {
-            number = Refusal::LENGTHS_DIFFER;
-            place = walked.places[asdu];
-            class = LATER;
-            if asdu == 0 {
-                class = FIRST;
-            }
-        }
+// How checked reading has to answer, and the class of a frame that it answers so.
+fn expected(ordinary: &Reading, walked: &Walked) -> (Reading, Class) {
+    let refused = |answer| Reading {
+        answer: Err(answer),
+        arrays: Arrays::LENT,
+    };
+    match (ordinary.answer, walked.misfit) {
+        (Err(answer), _) => (refused(answer), Class::Refused),
+        (Ok(()), None) => (*ordinary, Class::Accepted),
+        (Ok(()), Some((0, place))) => (refused(Reason::LengthsDiffer.at(place)), Class::First),
+        (Ok(()), Some((_, place))) => (refused(Reason::LengthsDiffer.at(place)), Class::Later),
     }
-    if checked.number != number || checked.place != place {
-        return WRONG;
-    }
-    let mut expected = ordinary;
-    if number != 0 {
-        expected = readings::lent();
-    }
-    if readings::same_arrays(checked, expected) {
-        return class;
-    }
-    WRONG
 }
 
 // The frame with another octet before a place, where there is one.
 fn change(frame: Frame, place: usize, octet: u8) -> Frame {
     let mut f = frame;
-    if 0 < place {
-        let at = place - 1;
+    if let Some(at) = place.checked_sub(1) {
         if at < SavPdu::MAX_FRAME {
             f.octets[at] = octet;
         }
@@ -68,22 +48,15 @@ fn change(frame: Frame, place: usize, octet: u8) -> Frame {
 // the first samples besides.
 fn changed(k: u32, channels: u32) -> Frame {
     let frame = frames::write(k, channels, 0xffffff, 0);
-    let walked = walk::walk(first(&frame.octets, frame.size), channels as usize);
-    let places = walked.places;
+    let places = walk(frame.first(frame.size), channels as usize).places;
     let octet = (draw(k, 42) / 65536 % 256) as u8;
-    let kind = below(k, 40, 6);
-    let mut place = below(k, 43, 1600) as usize % 1600 + 1;
-    let mut besides = 0;
-    if kind != 0 {
-        place = places[(below(k, 41, 4) % 4) as usize];
+    let of_length = places[below(k, 41, 4) as usize];
+    match below(k, 40, 6) {
+        0 => change(frame, below(k, 43, 1600) as usize + 1, octet),
+        1 => change(frame, of_length, octet),
+        2 => change(change(frame, places[0], octet / 2), of_length, octet),
+        _ => frame,
     }
-    if kind == 2 {
-        besides = places[0];
-    }
-    if 2 < kind {
-        place = 0;
-    }
-    change(change(frame, besides, octet / 2), place, octet)
 }
 
 // The number of channels that is asked for: that of the frame, or another.
@@ -103,13 +76,21 @@ fn room(k: u32) -> usize {
     SavDataSetConfig::MAX_SAMPLES
 }
 
-// Where frame k is counted.
-pub fn answer(k: u32) -> usize {
+// Frame k.
+pub fn answer(k: u32) -> Class {
     let channels = below(k, 1, 25);
     let frame = changed(k, channels);
-    let s = first(&frame.octets, frames::kept(k, frame.size));
+    let s = frame.first(frames::kept(k, frame.size));
     let asked = asked(k, channels);
-    let ordinary = readings::ordinary(s, asked, room(k));
-    let checked = readings::checked(s, asked, room(k));
-    class(ordinary, checked, walk::walk(s, asked))
+    let ordinary = reading(room(k), |numbers, octets, counts, words| {
+        flat_decode::read_frame(s, asked, numbers, octets, counts, words)
+    });
+    let checked = reading(room(k), |numbers, octets, counts, words| {
+        flat_checked::read_checked(s, asked, numbers, octets, counts, words)
+    });
+    let (expected, class) = expected(&ordinary, &walk(s, asked));
+    if checked == expected {
+        return class;
+    }
+    Class::Wrong
 }

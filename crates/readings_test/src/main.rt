@@ -14,78 +14,84 @@ mod pair;
 mod readings;
 mod walk;
 
-use rt_services::{SavDataSetConfig, SavPdu};
+use rt_services::{Refusal, SavDataSetConfig, SavPdu};
 use std::io;
 
-// The octets of a frame, and how many they are: none where the writer refuses it.
+// The octets of a frame, and how many they are: none where the writer refuses it. The writer is lent a
+// buffer of fixed length; a Vec would hand an allocator and its error through every function.
 #[derive(Clone, Copy)]
 pub struct Frame {
     pub octets: [u8; SavPdu::MAX_FRAME],
     pub size: usize,
 }
 
-// Number and place of a refusal, 0 and 0 where there is none; and what is in the arrays.
-#[derive(Clone, Copy)]
-pub struct Reading {
-    pub number: usize,
-    pub place: usize,
+impl Frame {
+    // The first n octets, or all of the buffer where there are fewer.
+    pub fn first(&self, n: usize) -> &[u8] {
+        &self.octets[..n.min(SavPdu::MAX_FRAME)]
+    }
+}
+
+// The arrays that a reading is lent.
+#[derive(Clone, Copy, PartialEq)]
+pub struct Arrays {
     pub numbers: [u32; layout::MAX_NUMBERS],
     pub octets: [u8; layout::MAX_OCTETS],
     pub counts: [i32; SavDataSetConfig::MAX_SAMPLES],
     pub words: [u32; SavDataSetConfig::MAX_SAMPLES],
 }
 
-// The places of the samples of eight ASDUs, whether or not the frame has so many; and the first of
-// the frame's ASDUs with another length before them than 8 times the channels, or 8.
-#[derive(Clone, Copy)]
-pub struct Walked {
-    pub places: [usize; SavPdu::MAX_ASDUS],
-    pub misfit: usize,
+impl Arrays {
+    // Before the reading.
+    pub const LENT: Arrays = Arrays {
+        numbers: [77; layout::MAX_NUMBERS],
+        octets: [77; layout::MAX_OCTETS],
+        counts: [77; SavDataSetConfig::MAX_SAMPLES],
+        words: [77; SavDataSetConfig::MAX_SAMPLES],
+    };
+}
+
+// A refusal, or none; and what is in the arrays.
+#[derive(Clone, Copy, PartialEq)]
+pub struct Reading {
+    pub answer: Result<(), Refusal>,
+    pub arrays: Arrays,
 }
 
 const PAIRS: u32 = 150000;
 
 const FRAMES: u32 = 250000;
 
-const REPORT_LENGTH: usize = 321;
-
-// The lines, each with a count in place of #.
-const REPORT: [u8; REPORT_LENGTH] =
-    *b"pairs of frames: #\nthat do not differ: #\nthat differ, both accepted alike: #\nthat differ, both refused alike: #\nthat differ, answered differently: #\nframes, checked: #\naccepted as by ordinary reading: #\nrefused 13 in the first ASDU: #\nrefused 13 in a later ASDU: #\nrefused as by ordinary reading: #\nanswered otherwise: #\n";
-
-const LINES: usize = 11;
-
-fn print(rt: &impl Print, counts: [u32; LINES]) -> io::Result<()> {
-    let text = REPORT;
-    let mut line = 0;
-    let mut i = 0;
-    while i < REPORT_LENGTH {
-        if text[i] == b'#' {
-            if line < LINES {
-                rt.print(counts[line])?;
-                line += 1;
-            }
-        } else {
-            rt.write_all(&text[i..i + 1])?;
-        }
-        i += 1;
+fn test_pairs(rt: &impl Print) -> io::Result<()> {
+    let mut counts = [0u32; 4];
+    for k in 0..PAIRS {
+        let count = &mut counts[pair::answer(k) as usize];
+        *count = count.saturating_add(1);
     }
-    Ok(())
+    let [same, accepted, refused, differ] = counts;
+    println!(rt; "pairs of frames: {PAIRS}")?;
+    println!(rt; "that do not differ: {same}")?;
+    println!(rt; "that differ, both accepted alike: {accepted}")?;
+    println!(rt; "that differ, both refused alike: {refused}")?;
+    println!(rt; "that differ, answered differently: {differ}")
+}
+
+fn test_frames(rt: &impl Print) -> io::Result<()> {
+    let mut counts = [0u32; 5];
+    for k in 0..FRAMES {
+        let count = &mut counts[lengths::answer(k) as usize];
+        *count = count.saturating_add(1);
+    }
+    let [accepted, first, later, refused, wrong] = counts;
+    println!(rt; "frames, checked: {FRAMES}")?;
+    println!(rt; "accepted as by ordinary reading: {accepted}")?;
+    println!(rt; "refused 13 in the first ASDU: {first}")?;
+    println!(rt; "refused 13 in a later ASDU: {later}")?;
+    println!(rt; "refused as by ordinary reading: {refused}")?;
+    println!(rt; "answered otherwise: {wrong}")
 }
 
 fn main(rt: HostRuntime) -> io::Result<()> {
-    let mut counts = [0; LINES];
-    counts[pair::ALL] = PAIRS;
-    counts[lengths::ALL] = FRAMES;
-    let mut k = 0;
-    while k < FRAMES {
-        if k < PAIRS {
-            let pair = pair::answer(k) % LINES;
-            counts[pair] = std::num::wrapping_add_u32(counts[pair], 1);
-        }
-        let frame = lengths::answer(k) % LINES;
-        counts[frame] = std::num::wrapping_add_u32(counts[frame], 1);
-        k += 1;
-    }
-    print(&rt, counts)
+    test_pairs(&rt)?;
+    test_frames(&rt)
 }

@@ -2,7 +2,7 @@
 use mathlib.Core.List.{List, [], ◌∷◌}
 use Prim.Native.Nat.{ℕ, ◌<◌}
 use lib.IntN.{ℤ}
-use mir.Syntax.{w8}
+use mir.Syntax.{w8, w16}
 use mir.Val.{Val}
 use base.Fml.{Fml}
 use denote.Shadow.{shadow}
@@ -11,6 +11,7 @@ use denote.Plain.{UInt}
 use denote.Array.{Array, each}
 use denote.Struct.Declared as struct
 use denote.Enum.Declared as enum
+use Rattle.std.specs.Prelude.{Option, None, Some}
 use Rattle.definition.specs.Frame.{Held, All, Octet, Word, Count, Of, Tag}
 use Rattle.definition.specs.Limits.{max_text}
 use Rattle.rt_services.specs.declared.SavAsdu.{SavAsdu}
@@ -18,14 +19,12 @@ use Rattle.rt_services.specs.declared.SavPdu.{SavPdu}
 use Rattle.rt_services.specs.declared.EthernetHeader.{EthernetHeader}
 use Rattle.rt_services.specs.declared.Vlan.{Vlan}
 use Rattle.rt_services.specs.declared.Vlan.TheVariants as vlan
-use Rattle.rt_services.specs.declared.OptionalU16.{OptionalU16}
-use Rattle.rt_services.specs.declared.OptionalU16.TheVariants as optional_u16
-use Rattle.rt_services.specs.Describe.{number, tag_of}
+use Rattle.rt_services.specs.Describe.{tag_of}
 use Rattle.rt_services.specs.contracts.SavAsdu as sav-asdu
 use Rattle.rt_services.specs.contracts.SavPdu as sav-pdu
 use Rattle.rt_services.specs.contracts.EthernetHeader as ethernet-header
 use Rattle.rt_services.specs.contracts.Vlan as vlan-type
-use Rattle.rt_services.specs.contracts.OptionalU16 as optional-type
+use Rattle.std.specs.contracts.option.Option as option
 use Rattle.record_agreement.specs.Widths.{AsduWidths, Widths}
 
 -- an array: what each element's type tells of it
@@ -43,10 +42,10 @@ unfolding Held
 vlan_known vlan.Untagged vs h = tt
 vlan_known (vlan.Tagged a b) vs h = record { tpid = h.1.1.1.1.0.1; tci = h.1.1.1.1.1.0.1 }
 
-number_known : (o : OptionalU16) (vs : List Val) → Is (enum.row optional-type.the_type) o vs → Held (λ (v : ℕ). v < 65536) (number o)
+number_known : (o : Option ℕ) (vs : List Val) → Is (option.the_row (UInt w16)) o vs → Held (λ (v : ℕ). v < 65536) o
 unfolding Held
-number_known optional_u16.Absent vs h = tt
-number_known (optional_u16.Present v) vs h = h.1.1.1.1.0.1
+number_known None vs h = tt
+number_known (Some v) vs h = h.1.1.1.1.0.1
 
 asdu_known : (a : SavAsdu) (vs : List Val) → Is (struct.row sav-asdu.the_type) a vs → AsduWidths a
 asdu_known a vs h =

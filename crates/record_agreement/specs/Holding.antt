@@ -1,7 +1,7 @@
 -- Records and arrays of just a description: they keep to the types of their fields and elements, and stand for it.
 use Rattle.std.specs.Prelude.{◌≡◌, refl, List, [], ◌∷◌, ◌++◌, map, ℕ, ◌-◌, length, ℤ}
 use Rattle.std.proofs.Common.{sym, ap, ◌∙◌, append-nil, arith}
-use Rattle.std.proofs.Math.Option.{Option, some, none}
+use Rattle.std.specs.Prelude.{Option, Some, None}
 use Rattle.definition.specs.Limits.{max_text, max_security, max_asdus}
 use Rattle.definition.specs.Frame.{Asdu, Description, Held, All, Octets, Of, AsduTyped, Typed}
 use Rattle.definition.specs.Held.{filled_to, padded}
@@ -11,20 +11,20 @@ use Rattle.definition.proofs.Sound.{all_append, padded_octets}
 use Rattle.definition.proofs.Samples.{all_typed}
 use Rattle.rt_services.specs.Describe.{asdu_record, asdu_records, pdu_record, header_record, header_in, pdu_in, description_of}
 use Rattle.definition.specs.Flat.{or_else}
-use Rattle.rt_services.proofs.Laws.{number_back, vlan_back, description_held}
+use Rattle.rt_services.proofs.Laws.{vlan_back, description_held}
 use Rattle.record_agreement.specs.Widths.{AsduWidths, Widths, all_blank}
 
 -- ---- fields
 
 or_octets : (o : Option (List ℕ)) → Held Octets o → Octets (or_else [] o)
 unfolding Held All
-or_octets none h = tt
-or_octets (some l) h = h
+or_octets None h = tt
+or_octets (Some l) h = h
 
 eight : (o : Option (List ℕ)) → Held (Of 8) o → Of 8 (padded 8 (or_else [] o))
 unfolding Held All
-eight none h = record { size = length-filled_to 0 8 [] (omega arith); each = padded_octets 8 [] tt }
-eight (some l) h = record { size = length-filled_to 0 8 l (omega (arith, h.size)); each = padded_octets 8 l h.each }
+eight None h = record { size = length-filled_to 0 8 [] (omega arith); each = padded_octets 8 [] tt }
+eight (Some l) h = record { size = length-filled_to 0 8 l (omega (arith, h.size)); each = padded_octets 8 l h.each }
 
 asdu_widths : (n : ℕ) (a : Asdu) → AsduTyped n a → AsduWidths (asdu_record a)
 unfolding asdu_record
@@ -33,8 +33,8 @@ asdu_widths n a t = record {
   dat_set = padded_octets max_text (or_else [] a.dat_set) (or_octets a.dat_set t.dat_set);
   refr_tm = eight a.refr_tm t.refr_tm;
   gm_identity = eight a.gm_identity t.gm_identity;
-  smp_rate = rw (number_back a.smp_rate) t.smp_rate;
-  smp_mod = rw (number_back a.smp_mod) t.smp_mod;
+  smp_rate = t.smp_rate;
+  smp_mod = t.smp_mod;
   conf_rev = t.conf_rev;
   smp_cnt = t.smp_cnt;
   smp_synch = t.smp_synch;

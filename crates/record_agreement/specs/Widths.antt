@@ -15,7 +15,7 @@ use Rattle.rt_services.specs.declared.SavPdu.{SavPdu}
 use Rattle.rt_services.specs.declared.EthernetHeader.{EthernetHeader}
 use Rattle.rt_services.specs.declared.Presence.{Presence}
 use Rattle.rt_services.specs.declared.Presence.TheVariants as presence
-use Rattle.rt_services.specs.Describe.{when, number, tag_of, asdu_of, asdus_of, blank_record, pdu_of, header_of, description_of}
+use Rattle.rt_services.specs.Describe.{when, tag_of, asdu_of, asdus_of, blank_record, pdu_of, header_of, description_of}
 use Rattle.rt_services.specs.Same.{records_of}
 
 -- u8, u16 and u32; arrays of octets
@@ -24,8 +24,8 @@ pub record AsduWidths (a : SavAsdu) : Type 0 where
   pub dat_set : Octets a.dat_set_octets
   pub refr_tm : Of 8 a.refr_tm_octets
   pub gm_identity : Of 8 a.gm_identity_octets
-  pub smp_rate : Held (λ (v : ℕ). v < 65536) (number a.smp_rate)
-  pub smp_mod : Held (λ (v : ℕ). v < 65536) (number a.smp_mod)
+  pub smp_rate : Held (λ (v : ℕ). v < 65536) a.smp_rate
+  pub smp_mod : Held (λ (v : ℕ). v < 65536) a.smp_mod
   pub conf_rev : Word a.conf_rev
   pub smp_cnt : a.smp_cnt < 65536
   pub smp_synch : a.smp_synch < 256

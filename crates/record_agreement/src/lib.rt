@@ -6,27 +6,20 @@
 
 pub mod widths;
 
-ghost use Rattle.std.specs.Prelude.{◌≡◌, ℕ, ◌*◌, ◌≤◌, length};
-ghost use Rattle.definition.specs.Answers.{accepted, over};
-ghost use Rattle.rt_services.specs.declared.Written.TheVariants as written;
-ghost use Rattle.rt_services.specs.Told.{told_written};
+ghost use Rattle.std.specs.Prelude.{◌≡◌, ◌*◌, ◌≤◌, length, Ok, IfOk, IsOkAnd};
+ghost use Rattle.std.specs.Result.{result_map_both};
+ghost use Rattle.definition.specs.Answers.{over};
 ghost use Rattle.record_agreement.specs.Calls.{Encodes, ReadsStrictly};
 ghost use Rattle.record_agreement.specs.Theorems.{Returned};
 
-use rt_services::{EthernetHeader, Refusal, SavPdu, SavRead, Written};
+use rt_services::{EthernetHeader, Refusal, SavPdu, SavRead};
 
-// What the two calls answered; of the call that is not made, because the first is refused, a refusal
-// with the number 0.
+// How many octets were written, and what strict reading of them answered.
 #[derive(Clone, Copy)]
-pub struct Answers {
-    pub written: Written,
-    pub read: SavRead,
+pub struct WrittenRead {
+    pub size: usize,
+    pub read: Result<SavRead, Refusal>,
 }
-
-const NOT_MADE: Refusal = Refusal {
-    number: 0,
-    place: 0,
-};
 
 // Written, and where that is accepted strictly read.
 pub fn write_then_read(
@@ -39,19 +32,13 @@ pub fn write_then_read(
     frame: &mut [u8],
     counts_back: &mut [i32],
     qualities_back: &mut [u32],
-) -> Answers
-    ensures write { Encodes fixed channels header pdu counts.now qualities.now frame.old frame.new result.written }
-    ensures read { (size : ℕ) → result.written ≡ written.At size → pdu.no_asdu * channels ≤ length counts_back.old → pdu.no_asdu * channels ≤ length qualities_back.old
-        → Returned fixed channels header pdu counts.now qualities.now counts_back.old counts_back.new qualities_back.old qualities_back.new result.read }
+) -> Result<WrittenRead, Refusal>
+    ensures write { Encodes fixed channels header pdu counts.now qualities.now frame.old frame.new (result_map_both (λ x. x.size) (λ r. r) result) }
+    ensures read { IfOk result (λ x. pdu.no_asdu * channels ≤ length counts_back.old → pdu.no_asdu * channels ≤ length qualities_back.old
+        → IsOkAnd x.read (Returned fixed channels header pdu counts.now qualities.now counts_back.old counts_back.new qualities_back.old qualities_back.new)) }
 {
     widths::counts(counts);
-    let written = encode_smv::encode_smv(header, pdu, channels, fixed, counts, qualities, frame);
-    let Written::At(size) = written else {
-        return Answers {
-            written,
-            read: decode_smv::refused_read(NOT_MADE),
-        };
-    };
+    let size = encode_smv::encode_smv(header, pdu, channels, fixed, counts, qualities, frame)?;
     let read = strict_smv::read_strict(
         &frame[..size],
         channels,
@@ -59,7 +46,14 @@ pub fn write_then_read(
         counts_back,
         qualities_back,
     );
-    Answers { written, read }
+    Ok(WrittenRead { size, read })
+}
+
+// What was read, and what writing it answered.
+#[derive(Clone, Copy)]
+pub struct ReadWritten {
+    pub read: SavRead,
+    pub written: Result<usize, Refusal>,
 }
 
 // Strictly read, and where that is accepted written from what was handed back.
@@ -70,27 +64,20 @@ pub fn read_then_write(
     counts: &mut [i32],
     qualities: &mut [u32],
     frame: &mut [u8],
-) -> Answers
-    ensures read { ReadsStrictly fixed channels s.now counts.old counts.new qualities.old qualities.new result.read }
-    ensures write { result.read.number ≡ 0 → length s.now ≤ length frame.old
-        → (told_written result.written ≡ accepted (length s.now)) × (frame.new ≡ over frame.old 0 s.now) }
+) -> Result<ReadWritten, Refusal>
+    ensures read { ReadsStrictly fixed channels s.now counts.old counts.new qualities.old qualities.new (result_map_both (λ x. x.read) (λ r. r) result) }
+    ensures write { IfOk result (λ x. length s.now ≤ length frame.old
+        → (x.written ≡ Ok (length s.now)) × (frame.new ≡ over frame.old 0 s.now)) }
 {
-    let read = strict_smv::read_strict(s, channels, fixed, counts, qualities);
-    if 0 < read.number {
-        return Answers {
-            written: Written::Refused(NOT_MADE),
-            read,
-        };
-    }
-    let header = read.header;
+    let read = strict_smv::read_strict(s, channels, fixed, counts, qualities)?;
     let written = encode_smv::encode_smv(
-        header,
-        strict_smv::pdu_of(read),
+        read.header,
+        read.pdu,
         channels,
         fixed,
         counts,
         qualities,
         frame,
     );
-    Answers { written, read }
+    Ok(ReadWritten { read, written })
 }

@@ -5,9 +5,7 @@ ghost use Rattle.definition.specs.Frame.{Count, All};
 pub fn counts(l: &[i32])
     ensures { All Count l.now }
 {
-    let mut i = 0;
-    while i < l.len() {
-        let _z = l[i];
-        i += 1;
+    for z in l {
+        let _z = *z;
     }
 }

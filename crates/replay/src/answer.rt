@@ -1,70 +1,103 @@
-// The Rust's answer, in the layout of oracle/README.md, held against this project's part by part: each step answers the place
-// after its part, or WRONG where the Rust has something else there. After WRONG every step answers WRONG.
-use crate::octets::{part, plus};
+// The Rust's answer to a request, and this project's.
+use crate::class::Class;
+use crate::octets::{Field, Octets};
+use rt_services::{Reason, Refusal};
 
-pub const WRONG: usize = 18446744073709551615;
-
-// What this project's code answers: the number and place of a refusal; or number 0, and whether the Rust answers the same.
-#[derive(Clone, Copy)]
-pub struct Ours {
-    pub number: usize,
-    pub place: usize,
-    pub same: bool,
+// Where the Rust panics: by an index, by a range or a copy of another length, by an overflow, or otherwise.
+#[derive(Clone, Copy, PartialEq, Eq)]
+pub enum Panic {
+    Index,
+    Range,
+    Overflow,
+    Other,
 }
 
-pub fn refused(number: usize, place: usize) -> Ours {
-    Ours {
-        number,
-        place,
-        same: false,
-    }
-}
-
-// Accepted; the Rust's answer is the same up to a place.
-pub fn accepted(theirs: &[u8], at: usize) -> Ours {
-    Ours {
-        number: 0,
-        place: 0,
-        same: at == theirs.len(),
-    }
-}
-
-pub fn has(theirs: &[u8], at: usize, octet: u8) -> usize {
-    if at < theirs.len() {
-        if theirs[at] == octet {
-            return at + 1;
+impl Field for Panic {
+    fn of(octets: &mut Octets) -> Option<Panic> {
+        match octets.next()? {
+            1u8 => Some(Panic::Index),
+            2 => Some(Panic::Range),
+            3 => Some(Panic::Overflow),
+            4 => Some(Panic::Other),
+            _ => None,
         }
     }
-    WRONG
 }
 
-pub fn has_mark(theirs: &[u8], at: usize, mark: bool) -> usize {
-    has(theirs, at, mark as u8)
+// What the Rust answers, by its status.
+#[derive(Clone, Copy)]
+pub enum Theirs<'a> {
+    Answered(Octets<'a>),
+    // After number and place, the buffer of the length writer.
+    Refused {
+        number: u8,
+        place: usize,
+        rest: Octets<'a>,
+    },
+    Panicked(Panic),
+    NotAsked,
 }
 
-pub fn has16(theirs: &[u8], at: usize, v: u16) -> usize {
-    has(theirs, has(theirs, at, (v / 256) as u8), (v % 256) as u8)
-}
-
-pub fn has32(theirs: &[u8], at: usize, v: u32) -> usize {
-    has16(
-        theirs,
-        has16(theirs, at, (v / 65536) as u16),
-        (v % 65536) as u16,
-    )
-}
-
-pub fn has64(theirs: &[u8], at: usize, v: usize) -> usize {
-    has32(
-        theirs,
-        has32(theirs, at, (v / 4294967296) as u32),
-        (v % 4294967296) as u32,
-    )
-}
-
-pub fn has_octets(theirs: &[u8], at: usize, s: &[u8]) -> usize {
-    if check::same(part(theirs, at, s.len()), s) {
-        return plus(at, s.len());
+impl<'a> Theirs<'a> {
+    pub fn of(mut octets: Octets<'a>) -> Option<Theirs<'a>> {
+        match octets.next()? {
+            0u8 => Some(Theirs::Answered(octets)),
+            1 => Some(Theirs::Refused {
+                number: octets.next()?,
+                place: octets.next()?,
+                rest: octets,
+            }),
+            2 => {
+                let panic = octets.next()?;
+                octets.end()?;
+                Some(Theirs::Panicked(panic))
+            }
+            3 => Some(Theirs::NotAsked),
+            _ => None,
+        }
     }
-    WRONG
+
+    // What it answers, where it neither refuses nor panics.
+    pub fn answer(self) -> Option<Octets<'a>> {
+        match self {
+            Theirs::Answered(octets) => Some(octets),
+            _ => None,
+        }
+    }
+}
+
+// What this project's code answers: whether the Rust answers the same, or a refusal.
+pub type Ours = Result<bool, Refusal>;
+
+// The class of an answer of this project that is the Rust's up to here.
+pub fn answered(theirs: Octets) -> Option<Class> {
+    theirs.end()?;
+    Some(Class::Answered)
+}
+
+// The class of a refusal that has to be the Rust's too.
+pub fn refused(ours: Refusal, theirs: Theirs) -> Option<Class> {
+    let Theirs::Refused {
+        number,
+        place,
+        rest,
+    } = theirs
+    else {
+        return None;
+    };
+    rest.end()?;
+    (number as usize == ours.reason.number() && place == ours.place).then_some(Class::Refused)
+}
+
+// The class of two answers that have to be the same.
+pub fn alike(ours: Ours, theirs: Theirs) -> Option<Class> {
+    match ours {
+        Ok(same) => same.then_some(Class::Answered),
+        Err(refusal) => refused(refusal, theirs),
+    }
+}
+
+// The class, where ours is refusal 1 at this place.
+pub fn ends_at(ours: Refusal, place: usize, class: Class) -> Option<Class> {
+    (ours == Reason::EndsTooSoon.at(place)).then_some(class)
 }

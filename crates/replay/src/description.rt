@@ -1,316 +1,310 @@
-// A description, from the layout of oracle/README.md: a header, then the PDU with its samples. `pdu` is the part after the
-// header.
-use crate::numbers::float_of;
-use crate::octets::{after, eight, number16, number32, octet, part, plus};
-use rt_services::{
-    Counted, EthernetHeader, OptionalU16, Presence, SavAsdu, SavDataSetConfig, SavPdu, Vlan,
-};
-use types::Quality;
+// Descriptions, of a header and a PDU with its samples, as requests and answers have them.
+ghost use Rattle.std.specs.Iterator.{at_most};
 
-// The octets of a header.
-pub const PDU: usize = 23;
+use crate::octets::{Field, Fields, Octets};
+use rt_services::{EthernetHeader, Presence, Refusal, SavAsdu, SavDataSetConfig, SavPdu, Vlan};
+use std::num::f32_from_bits_with_nan;
 
 // Elements of the arrays that are lent to the writer: above ten ASDUs of 24 channels.
 pub const SAMPLES: usize = 256;
 
-const BLANKS: [SavAsdu; SavPdu::MAX_ASDUS] = [SavAsdu::BLANK; SavPdu::MAX_ASDUS];
-
-fn six(s: &[u8], at: usize) -> [u8; 6] {
-    [
-        octet(s, at),
-        octet(s, plus(at, 1)),
-        octet(s, plus(at, 2)),
-        octet(s, plus(at, 3)),
-        octet(s, plus(at, 4)),
-        octet(s, plus(at, 5)),
-    ]
+// A sample: its value and its scale factor, by the bits of an f32, and its quality word.
+#[derive(Clone, Copy)]
+pub struct Sample {
+    value: u32,
+    scale: u32,
+    pub quality: u32,
 }
 
-fn presence(mark: u8) -> Presence {
-    if mark == 1 {
-        return Presence::Present;
-    }
-    Presence::Absent
-}
-
-fn optional16(s: &[u8], at: usize) -> OptionalU16 {
-    if octet(s, at) == 1 {
-        return OptionalU16::Present(number16(s, plus(at, 1)));
-    }
-    OptionalU16::Absent
-}
-
-fn vlan(request: &[u8]) -> Vlan {
-    if octet(request, 12) == 1 {
-        return Vlan::Tagged(number16(request, 13), number16(request, 15));
-    }
-    Vlan::Untagged
-}
-
-pub fn header(request: &[u8]) -> EthernetHeader {
-    EthernetHeader {
-        dst_addr: six(request, 0),
-        src_addr: six(request, 6),
-        vlan: vlan(request),
-        ether_type: number16(request, 17),
-        appid: number16(request, 19),
-        length: 0,
+impl Field for Sample {
+    fn of(octets: &mut Octets) -> Option<Sample> {
+        Some(Sample {
+            value: octets.next()?,
+            scale: octets.next()?,
+            quality: octets.next()?,
+        })
     }
 }
 
-pub fn security_length(pdu: &[u8]) -> usize {
-    number16(pdu, 4) as usize
-}
+impl Sample {
+    const ZERO: Sample = Sample {
+        value: 0,
+        scale: 0,
+        quality: 0,
+    };
 
-pub fn records(pdu: &[u8]) -> usize {
-    number16(pdu, plus(6, security_length(pdu))) as usize
-}
-
-// The place of the first ASDU record.
-pub fn first_record(pdu: &[u8]) -> usize {
-    plus(8, security_length(pdu))
-}
-
-// The places in an ASDU record: the mark of datSet, smpCnt, and the number of samples.
-pub fn dat_set_at(pdu: &[u8], record: usize) -> usize {
-    plus(record, 2 + number16(pdu, record) as usize)
-}
-
-fn smp_cnt_at(pdu: &[u8], record: usize) -> usize {
-    let at = dat_set_at(pdu, record);
-    plus(at, 3 + number16(pdu, plus(at, 1)) as usize)
-}
-
-fn samples_at(pdu: &[u8], record: usize) -> usize {
-    plus(smp_cnt_at(pdu, record), 31)
-}
-
-pub fn samples(pdu: &[u8], record: usize) -> usize {
-    octet(pdu, samples_at(pdu, record)) as usize
-}
-
-pub fn next_record(pdu: &[u8], record: usize) -> usize {
-    let at = samples_at(pdu, record);
-    plus(at, 1 + 12 * (octet(pdu, at) as usize))
-}
-
-// The number of channels: the samples of the first ASDU.
-pub fn channels(pdu: &[u8]) -> usize {
-    if records(pdu) == 0 {
-        return 0;
+    pub fn value(self) -> f32 {
+        f32_from_bits_with_nan(self.value)
     }
-    samples(pdu, first_record(pdu))
+
+    pub fn scale(self) -> f32 {
+        f32_from_bits_with_nan(self.scale)
+    }
+
+    // Its count, or the refusal of its value.
+    pub fn count(self) -> Result<i32, Refusal> {
+        scaling::count_of(self.value(), self.scale())
+    }
 }
 
-// The octets of a text, and zeros after them.
-fn held_text(s: &[u8]) -> [u8; SavAsdu::MAX_TEXT] {
-    let mut held = [0u8; SavAsdu::MAX_TEXT];
-    let mut i = 0;
-    while i < SavAsdu::MAX_TEXT {
-        held[i] = octet(s, i);
-        i += 1;
+// An ASDU record.
+#[derive(Clone, Copy)]
+pub struct Record<'a> {
+    pub sv_id: &'a [u8],
+    pub dat_set: Option<&'a [u8]>,
+    pub smp_cnt: u16,
+    pub conf_rev: u32,
+    pub refr_tm: Option<[u8; 8]>,
+    pub smp_synch: u8,
+    pub smp_rate: Option<u16>,
+    pub smp_mod: Option<u16>,
+    pub gm_identity: Option<[u8; 8]>,
+    pub samples: Fields<'a, Sample>,
+}
+
+impl<'a> Record<'a> {
+    fn of(octets: &mut Octets<'a>) -> Option<Record<'a>> {
+        Some(Record {
+            sv_id: octets.text()?,
+            dat_set: octets.optional_text()?,
+            smp_cnt: octets.next()?,
+            conf_rev: octets.next()?,
+            refr_tm: octets.next()?,
+            smp_synch: octets.next()?,
+            smp_rate: octets.next()?,
+            smp_mod: octets.next()?,
+            gm_identity: octets.next()?,
+            samples: {
+                let n: u8 = octets.next()?;
+                octets.fields(n as usize)?
+            },
+        })
     }
+}
+
+// ASDU records in a row, each whole. No proof is made for code over Fields<Record>, which names two lifetimes.
+#[derive(Clone, Copy)]
+pub struct Records<'a> {
+    octets: Octets<'a>,
+    left: usize,
+}
+
+impl<'a> Records<'a> {
+    // The next n records; None where one isn't there.
+    fn of(octets: &mut Octets<'a>, n: usize) -> Option<Records<'a>> {
+        let records = Records {
+            octets: *octets,
+            left: n,
+        };
+        for _ in 0..n {
+            Record::of(octets)?;
+        }
+        Some(records)
+    }
+
+    // How many are left.
+    pub fn len(&self) -> usize {
+        self.left
+    }
+}
+
+impl<'a> Iterator for Records<'a> {
+    type Item = Record<'a>;
+
+    ghost remaining = { λ s. at_most s.left };
+
+    fn next(&mut self) -> Option<Record<'a>> {
+        self.left = self.left.checked_sub(1)?;
+        Record::of(&mut self.octets)
+    }
+}
+
+// The first N octets, and zeros where there are fewer.
+fn held<const N: usize>(s: &[u8]) -> [u8; N] {
+    let mut held = [0; N];
+    let n = s.len().min(N);
+    held[..n].copy_from_slice(&s[..n]);
     held
 }
 
-// The same for security.
-fn held_security(s: &[u8]) -> [u8; SavPdu::MAX_SECURITY] {
-    let mut held = [0u8; SavPdu::MAX_SECURITY];
-    let mut i = 0;
-    while i < SavPdu::MAX_SECURITY {
-        held[i] = octet(s, i);
-        i += 1;
-    }
-    held
-}
-
-fn asdu(pdu: &[u8], record: usize) -> SavAsdu {
-    let set = dat_set_at(pdu, record);
-    let at = smp_cnt_at(pdu, record);
-    let sv_id_len = number16(pdu, record) as usize;
-    let dat_set_len = number16(pdu, plus(set, 1)) as usize;
-    SavAsdu {
-        msv_id: held_text(part(pdu, plus(record, 2), sv_id_len)),
-        dat_set: presence(octet(pdu, set)),
-        dat_set_octets: held_text(part(pdu, plus(set, 3), dat_set_len)),
-        refr_tm: presence(octet(pdu, plus(at, 6))),
-        msv_id_len: sv_id_len,
-        dat_set_len,
-        refr_tm_octets: eight(pdu, plus(at, 7)),
-        gm_identity_octets: eight(pdu, plus(at, 23)),
-        smp_rate: optional16(pdu, plus(at, 16)),
-        smp_mod: optional16(pdu, plus(at, 19)),
-        conf_rev: number32(pdu, plus(at, 2)),
-        smp_cnt: number16(pdu, at),
-        smp_synch: octet(pdu, plus(at, 15)),
-        gm_identity: presence(octet(pdu, plus(at, 22))),
-    }
-}
-
-fn asdu_or_blank(pdu: &[u8], record: usize, there: bool) -> SavAsdu {
+fn presence(there: bool) -> Presence {
     if there {
-        return asdu(pdu, record);
-    }
-    SavAsdu::BLANK
-}
-
-// The first eight ASDUs, and blank records after them.
-fn asdus(pdu: &[u8]) -> [SavAsdu; SavPdu::MAX_ASDUS] {
-    let n = records(pdu);
-    let mut held = BLANKS;
-    let mut at = first_record(pdu);
-    let mut k = 0;
-    while k < SavPdu::MAX_ASDUS {
-        held[k] = asdu_or_blank(pdu, at, k < n);
-        at = next_record(pdu, at);
-        k += 1;
-    }
-    held
-}
-
-pub fn pdu_of(pdu: &[u8]) -> SavPdu {
-    let security_len = security_length(pdu);
-    SavPdu {
-        sav_asdu: asdus(pdu),
-        security_octets: held_security(part(pdu, 6, security_len)),
-        security_len,
-        no_asdu: number16(pdu, 1),
-        sim: octet(pdu, 0) == 1,
-        security: presence(octet(pdu, 3)),
+        Presence::Present
+    } else {
+        Presence::Absent
     }
 }
 
-// The place of ASDU record k.
-fn record_at(pdu: &[u8], k: usize) -> usize {
-    let mut at = first_record(pdu);
-    let mut i = 0;
-    while i < k {
-        at = next_record(pdu, at);
-        i += 1;
+impl<'a> Record<'a> {
+    fn asdu(self) -> SavAsdu {
+        let dat_set = self.dat_set.unwrap_or_default();
+        SavAsdu {
+            msv_id: held(self.sv_id),
+            dat_set: presence(self.dat_set.is_some()),
+            dat_set_octets: held(dat_set),
+            refr_tm: presence(self.refr_tm.is_some()),
+            msv_id_len: self.sv_id.len(),
+            dat_set_len: dat_set.len(),
+            refr_tm_octets: self.refr_tm.unwrap_or_default(),
+            gm_identity_octets: self.gm_identity.unwrap_or_default(),
+            smp_rate: self.smp_rate,
+            smp_mod: self.smp_mod,
+            conf_rev: self.conf_rev,
+            smp_cnt: self.smp_cnt,
+            smp_synch: self.smp_synch,
+            gm_identity: presence(self.gm_identity.is_some()),
+        }
     }
-    at
-}
 
-// The fields of a sample.
-const VALUE: usize = 0;
-
-const SCALE: usize = 4;
-
-const QUALITY: usize = 8;
-
-// A field of sample e, ASDU by ASDU; 0 past the last sample.
-fn word(pdu: &[u8], e: usize, field: usize) -> u32 {
-    let n = channels(pdu);
-    if n == 0 || records(pdu) <= e / n {
-        return 0;
-    }
-    let samples = plus(samples_at(pdu, record_at(pdu, e / n)), 1);
-    number32(after(pdu, samples), plus(e % n % 256 * 12, field))
-}
-
-// The scale factor of channel i of the first ASDU.
-fn scale(pdu: &[u8], i: usize) -> f32 {
-    if channels(pdu) <= i {
-        return 0.0;
-    }
-    float_of(word(pdu, i, SCALE))
-}
-
-// The data set of the first ASDU.
-pub fn data_set(pdu: &[u8]) -> SavDataSetConfig {
-    let mut scale_factor = [0.0; SavDataSetConfig::MAX_CHANNELS];
-    let mut i = 0;
-    while i < SavDataSetConfig::MAX_CHANNELS {
-        scale_factor[i] = scale(pdu, i);
-        i += 1;
-    }
-    SavDataSetConfig {
-        channels: channels(pdu),
-        scale_factor: scale_factor,
+    // Whether a text is above its limit.
+    fn has_long_text(self) -> bool {
+        SavAsdu::MAX_TEXT < self.sv_id.len()
+            || SavAsdu::MAX_TEXT < self.dat_set.unwrap_or_default().len()
     }
 }
 
-// The count of sample e, or its refusal.
-fn count_of(pdu: &[u8], e: usize) -> Counted {
-    scaling::count_of(float_of(word(pdu, e, VALUE)), float_of(word(pdu, e, SCALE)))
+#[derive(Clone, Copy)]
+pub struct Pdu<'a> {
+    pub simulated: bool,
+    pub no_asdu: u16,
+    pub security: Option<&'a [u8]>,
+    pub records: Records<'a>,
 }
 
-fn is_refused(counted: Counted) -> bool {
-    match counted {
-        Counted::Refused(_) => true,
-        Counted::Count(_) => false,
+impl<'a> Pdu<'a> {
+    pub fn of(octets: &mut Octets<'a>) -> Option<Pdu<'a>> {
+        Some(Pdu {
+            simulated: octets.next()?,
+            no_asdu: octets.next()?,
+            security: octets.optional_text()?,
+            records: {
+                let n: u16 = octets.next()?;
+                Records::of(octets, n as usize)?
+            },
+        })
     }
 }
 
-// A count, 0 where it can't be had.
-fn count_or_0(counted: Counted) -> i32 {
-    match counted {
-        Counted::Refused(_) => 0,
-        Counted::Count(c) => c,
+impl<'a> Pdu<'a> {
+    // As the writer takes it: the first eight ASDUs, and blank records after them.
+    pub fn pdu(self) -> SavPdu {
+        let security = self.security.unwrap_or_default();
+        let mut sav_asdu = [SavAsdu::BLANK; SavPdu::MAX_ASDUS];
+        for (asdu, record) in sav_asdu.iter_mut().zip(self.records) {
+            *asdu = record.asdu();
+        }
+        SavPdu {
+            sav_asdu,
+            security_octets: held(security),
+            security_len: security.len(),
+            no_asdu: self.no_asdu,
+            sim: self.simulated,
+            security: presence(self.security.is_some()),
+        }
+    }
+
+    // The samples of the first ASDU.
+    fn first_samples(self) -> Fields<'a, Sample> {
+        let mut records = self.records;
+        records
+            .next()
+            .map_or(Fields::none(), |record| record.samples)
+    }
+
+    // The number of channels: the samples of the first ASDU.
+    pub fn channels(self) -> usize {
+        self.first_samples().len()
+    }
+
+    // The data set of the first ASDU.
+    pub fn data_set(self) -> SavDataSetConfig {
+        let mut scale_factor = [0.0; SavDataSetConfig::MAX_CHANNELS];
+        for (scale, sample) in scale_factor.iter_mut().zip(self.first_samples()) {
+            *scale = sample.scale();
+        }
+        SavDataSetConfig {
+            channels: self.channels(),
+            scale_factor,
+        }
+    }
+
+    // What `of` says of each sample, ASDU by ASDU, and of a sample of zeros past the last.
+    pub fn each_sample<T: Copy, F: Fn(Sample) -> T>(self, of: F) -> [T; SAMPLES]
+        requires { F.IsAlwaysCallable of }
+    {
+        let mut elements = [of(Sample::ZERO); SAMPLES];
+        let samples = self.records.flat_map(|record| record.samples);
+        for (element, sample) in elements.iter_mut().zip(samples) {
+            *element = of(sample);
+        }
+        elements
+    }
+
+    // Whether a test holds of a sample.
+    pub fn any_sample<F: Fn(Sample) -> bool>(self, test: F) -> bool
+        requires { F.IsAlwaysCallable test }
+    {
+        let mut samples = self.records.flat_map(|record| record.samples);
+        samples.any(test)
+    }
+
+    // Whether every ASDU has as many samples as the first.
+    pub fn is_even(self) -> bool {
+        let channels = self.channels();
+        let mut records = self.records;
+        records.all(|record| record.samples.len() == channels)
+    }
+
+    // Whether an ASDU has other scale factors than the first.
+    pub fn has_other_scales(self) -> bool {
+        let first = self.first_samples();
+        let mut records = self.records;
+        records.any(|record| {
+            let mut pairs = record.samples.zip(first);
+            pairs.any(|(sample, first)| sample.scale != first.scale)
+        })
+    }
+
+    // Whether the number of ASDUs, security or a text is above its limit.
+    pub fn is_above_limit(self) -> bool {
+        let mut records = self.records;
+        SavPdu::MAX_ASDUS < records.len()
+            || SavPdu::MAX_SECURITY < self.security.unwrap_or_default().len()
+            || records.any(|record| record.has_long_text())
     }
 }
 
-// The elements of the four arrays, ASDU by ASDU, and zeros past the samples: values, counts, quality words as they stand,
-// and quality words as the Rust's Quality holds them.
-pub fn fill_values(pdu: &[u8], values: &mut [f32]) {
-    let mut e = 0;
-    while e < values.len() {
-        values[e] = float_of(word(pdu, e, VALUE));
-        e += 1;
-    }
+#[derive(Clone, Copy)]
+pub struct Description<'a> {
+    pub header: EthernetHeader,
+    // Whether only half of the VLAN tag is there: TPID without TCI, or TCI without TPID.
+    pub half_tag: bool,
+    pub pdu: Pdu<'a>,
 }
 
-pub fn fill_counts(pdu: &[u8], counts: &mut [i32]) {
-    let mut e = 0;
-    while e < counts.len() {
-        let count = count_or_0(count_of(pdu, e));
-        counts[e] = count;
-        e += 1;
+impl<'a> Description<'a> {
+    pub fn of(mut octets: Octets<'a>) -> Option<Description<'a>> {
+        let dst_addr = octets.next()?;
+        let src_addr = octets.next()?;
+        let mark: u8 = octets.next()?;
+        let (tpid, tci) = octets.next()?;
+        let vlan = if mark == 1 {
+            Vlan::Tagged(tpid, tci)
+        } else {
+            Vlan::Untagged
+        };
+        let header = EthernetHeader {
+            dst_addr,
+            src_addr,
+            vlan,
+            ether_type: octets.next()?,
+            appid: octets.next()?,
+            length: octets.next()?,
+        };
+        Some(Description {
+            header,
+            half_tag: 1 < mark,
+            pdu: Pdu::of(&mut octets)?,
+        })
     }
-}
-
-pub fn fill_words(pdu: &[u8], words: &mut [u32]) {
-    let mut e = 0;
-    while e < words.len() {
-        words[e] = word(pdu, e, QUALITY);
-        e += 1;
-    }
-}
-
-pub fn fill_qualities(pdu: &[u8], qualities: &mut [u32]) {
-    let mut e = 0;
-    while e < qualities.len() {
-        qualities[e] = Quality::from_sv(word(pdu, e, QUALITY)).to_sv();
-        e += 1;
-    }
-}
-
-fn when(holds: bool, mark: usize) -> usize {
-    if holds {
-        return mark;
-    }
-    0
-}
-
-// 1 where the count of sample e can't be had, 2 where its quality word is of 2^13 or more, 4 where its scale factor isn't
-// that of the first ASDU; the sum where several hold, and 0 past the last sample.
-fn mark(pdu: &[u8], e: usize) -> usize {
-    let n = channels(pdu);
-    if n == 0 || records(pdu) <= e / n {
-        return 0;
-    }
-    let other = word(pdu, e, SCALE) != word(pdu, e % n, SCALE);
-    let wide = SavAsdu::QUALITY_LIMIT <= word(pdu, e, QUALITY);
-    when(is_refused(count_of(pdu, e)), 1) | when(wide, 2) | when(other, 4)
-}
-
-// The marks of all samples together.
-pub fn marks(pdu: &[u8]) -> usize {
-    let mut marks = 0;
-    let mut e = 0;
-    while e < SAMPLES {
-        marks = marks | mark(pdu, e);
-        e += 1;
-    }
-    marks
 }

@@ -1,90 +1,193 @@
-// Octets and big-endian numbers at any place of a slice: past its end an octet is 0.
+// Octets that are read from the front, and the fields that stand in them: requests and answers have the layout of
+// oracle/README.md, in which numbers are big-endian.
+ghost use Rattle.std.specs.Iterator.{at_most};
 
-// a + b, at most the largest number.
-pub fn plus(a: usize, b: usize) -> usize {
-    if b <= 18446744073709551615 - a {
-        return a + b;
+use std::marker::PhantomData;
+use std::num::f32_from_bits_with_nan;
+
+#[derive(Clone, Copy)]
+pub struct Octets<'a> {
+    pub rest: &'a [u8],
+}
+
+// A field of the layout.
+pub trait Field: Sized {
+    // The field at the front; None where the octets are too few or no such field.
+    fn of(octets: &mut Octets) -> Option<Self>;
+}
+
+impl<'a> Octets<'a> {
+    // The next n octets.
+    pub fn take(&mut self, n: usize) -> Option<&'a [u8]> {
+        let (front, rest) = self.rest.split_at_checked(n)?;
+        self.rest = rest;
+        Some(front)
     }
-    18446744073709551615
-}
 
-// a - b, at least 0.
-pub fn less(a: usize, b: usize) -> usize {
-    if b <= a {
-        return a - b;
+    // The next N octets.
+    pub fn array<const N: usize>(&mut self) -> Option<[u8; N]> {
+        let (front, rest) = self.rest.split_first_chunk::<N>()?;
+        self.rest = rest;
+        Some(*front)
     }
-    0
-}
 
-pub fn octet(s: &[u8], at: usize) -> u8 {
-    if at < s.len() {
-        return s[at];
+    // The next field.
+    pub fn next<T: Field>(&mut self) -> Option<T> {
+        T::of(self)
     }
-    0
-}
 
-pub fn number16(s: &[u8], at: usize) -> u16 {
-    pair16(octet(s, at), octet(s, plus(at, 1)))
-}
+    // The next text: its length, and its octets.
+    pub fn text(&mut self) -> Option<&'a [u8]> {
+        let length: u16 = self.next()?;
+        self.take(length as usize)
+    }
 
-pub fn number32(s: &[u8], at: usize) -> u32 {
-    pair32(number16(s, at), number16(s, plus(at, 2)))
-}
+    // A mark and the text that it is for, with no octet where the mark says that it is absent.
+    pub fn optional_text(&mut self) -> Option<Option<&'a [u8]>> {
+        let present: bool = self.next()?;
+        let text = self.text()?;
+        if present {
+            return Some(Some(text));
+        }
+        text.is_empty().then_some(None)
+    }
 
-pub fn number64(s: &[u8], at: usize) -> usize {
-    pair64(number32(s, at), number32(s, plus(at, 4)))
-}
+    // The next n fields; None where one isn't there.
+    pub fn fields<T: Field + Drop>(&mut self, n: usize) -> Option<Fields<'a, T>> {
+        let octets = *self;
+        for _ in 0..n {
+            let _field: T = self.next()?;
+        }
+        Some(Fields {
+            octets,
+            left: n,
+            of: PhantomData,
+        })
+    }
 
-fn pair16(high: u8, low: u8) -> u16 {
-    high as u16 * 256 + low as u16
-}
+    // Whether these are next: None where they aren't.
+    pub fn has_octets(&mut self, s: &[u8]) -> Option<()> {
+        self.rest = self.rest.strip_prefix(s)?;
+        Some(())
+    }
 
-fn pair32(high: u16, low: u16) -> u32 {
-    high as u32 * 65536 + low as u32
-}
+    // Whether this field is next.
+    pub fn has<T: Field + PartialEq + Drop>(&mut self, field: T) -> Option<()> {
+        let next: T = self.next()?;
+        (next == field).then_some(())
+    }
 
-fn pair64(high: u32, low: u32) -> usize {
-    high as usize * 4294967296 + low as usize
-}
-
-// Puts an octet at a place, where there is one.
-pub fn put(out: &mut [u8], at: usize, octet: u8) {
-    if at < out.len() {
-        out[at] = octet;
+    // Whether none is left.
+    pub fn end(self) -> Option<()> {
+        self.rest.is_empty().then_some(())
     }
 }
 
-// The first n octets, or all where there are fewer.
-pub fn first(s: &[u8], n: usize) -> &[u8] {
-    if n <= s.len() {
-        return &s[..n];
+// Fields of one kind in a row.
+#[derive(Clone, Copy)]
+pub struct Fields<'a, T> {
+    octets: Octets<'a>,
+    left: usize,
+    of: PhantomData<T>,
+}
+
+impl<'a, T> Fields<'a, T> {
+    // No field.
+    pub fn none() -> Fields<'a, T> {
+        Fields {
+            octets: Octets { rest: b"" },
+            left: 0,
+            of: PhantomData,
+        }
     }
-    s
-}
 
-// What is left after n octets.
-pub fn after(s: &[u8], n: usize) -> &[u8] {
-    if n <= s.len() {
-        return &s[n..];
+    // How many are left.
+    pub fn len(&self) -> usize {
+        self.left
     }
-    &s[..0]
 }
 
-// The n octets from a place, or as many as there are.
-pub fn part(s: &[u8], at: usize, n: usize) -> &[u8] {
-    first(after(s, at), n)
+impl<'a, T: Field> Iterator for Fields<'a, T> {
+    type Item = T;
+
+    ghost remaining = { λ s. at_most s.left };
+
+    fn next(&mut self) -> Option<T> {
+        self.left = self.left.checked_sub(1)?;
+        self.octets.next()
+    }
 }
 
-// The eight octets from a place.
-pub fn eight(s: &[u8], at: usize) -> [u8; 8] {
-    [
-        octet(s, at),
-        octet(s, plus(at, 1)),
-        octet(s, plus(at, 2)),
-        octet(s, plus(at, 3)),
-        octet(s, plus(at, 4)),
-        octet(s, plus(at, 5)),
-        octet(s, plus(at, 6)),
-        octet(s, plus(at, 7)),
-    ]
+impl Field for u8 {
+    fn of(octets: &mut Octets) -> Option<u8> {
+        Some(u8::from_be_bytes(octets.array()?))
+    }
+}
+
+impl Field for u16 {
+    fn of(octets: &mut Octets) -> Option<u16> {
+        Some(u16::from_be_bytes(octets.array()?))
+    }
+}
+
+impl Field for u32 {
+    fn of(octets: &mut Octets) -> Option<u32> {
+        Some(u32::from_be_bytes(octets.array()?))
+    }
+}
+
+impl Field for i32 {
+    fn of(octets: &mut Octets) -> Option<i32> {
+        Some(i32::from_be_bytes(octets.array()?))
+    }
+}
+
+impl Field for usize {
+    fn of(octets: &mut Octets) -> Option<usize> {
+        Some(usize::from_be_bytes(octets.array()?))
+    }
+}
+
+// One NaN stands for all.
+impl Field for f32 {
+    fn of(octets: &mut Octets) -> Option<f32> {
+        Some(f32_from_bits_with_nan(octets.next()?))
+    }
+}
+
+// A mark.
+impl Field for bool {
+    fn of(octets: &mut Octets) -> Option<bool> {
+        match octets.next()? {
+            0u8 => Some(false),
+            1 => Some(true),
+            _ => None,
+        }
+    }
+}
+
+impl<const N: usize> Field for [u8; N] {
+    fn of(octets: &mut Octets) -> Option<[u8; N]> {
+        octets.array()
+    }
+}
+
+impl<A: Field + Drop, B: Field> Field for (A, B) {
+    fn of(octets: &mut Octets) -> Option<(A, B)> {
+        let a = octets.next()?;
+        let b = octets.next()?;
+        Some((a, b))
+    }
+}
+
+// A mark and the field that it is for: zero where the mark says that it is absent.
+impl<T: Field + Default + PartialEq + Drop> Field for Option<T> {
+    fn of(octets: &mut Octets) -> Option<Option<T>> {
+        let present: bool = octets.next()?;
+        let field: T = octets.next()?;
+        if present {
+            return Some(Some(field));
+        }
+        (field == T::default()).then_some(None)
+    }
 }

@@ -1,353 +1,276 @@
 // The kinds f, p, h and i: the frame reader, decode_smv, the header, and the frame test.
-use crate::answer::{
-    Ours, WRONG, accepted, has, has_mark, has_octets, has16, has32, has64, refused,
-};
-use crate::numbers::{bits_of, float_of};
-use crate::octets::{after, first, less, number32, number64, octet, part, plus};
-use crate::{class, reading_class, text};
-use ber_decode::Outcome;
+use crate::answer::{Theirs, answered};
+use crate::class::Class;
+use crate::octets::{Fields, Octets};
+use crate::reading_class;
 use rt_services::{
-    EthernetHeader, OptionalU16, Presence, Refusal, SavAsdu, SavDataSetConfig, SavPdu, SavRead,
-    Vlan, Written,
+    EthernetHeader, Presence, Reason, Refusal, SavAsdu, SavDataSetConfig, SavPdu, SavRead, Vlan,
 };
+use std::num::f32_to_bits_with_nan;
 
-fn has_vlan(theirs: &[u8], at: usize, vlan: Vlan) -> usize {
-    match vlan {
-        Vlan::Untagged => has32(theirs, has(theirs, at, 0), 0),
-        Vlan::Tagged(tpid, tci) => has16(theirs, has16(theirs, has(theirs, at, 1), tpid), tci),
+// The samples of a PDU: the scale factors of its channels, by their bits, and counts and quality words, ASDU by ASDU.
+#[derive(Clone, Copy)]
+struct Samples<'a> {
+    scales: Fields<'a, u32>,
+    counts: &'a [i32],
+    qualities: &'a [u32],
+}
+
+fn has_vlan(theirs: &mut Octets, vlan: Vlan) -> Option<()> {
+    theirs.has(match vlan {
+        Vlan::Untagged => None,
+        Vlan::Tagged(tpid, tci) => Some((tpid, tci)),
+    })
+}
+
+fn has_header(theirs: &mut Octets, h: EthernetHeader) -> Option<()> {
+    theirs.has(h.dst_addr)?;
+    theirs.has(h.src_addr)?;
+    has_vlan(theirs, h.vlan)?;
+    theirs.has(h.ether_type)?;
+    theirs.has(h.appid)?;
+    theirs.has(h.length)
+}
+
+// Whether a text is the lossy UTF-8 reading of octets, as the Rust's String::from_utf8_lossy has it.
+fn is_lossy(text: &[u8], s: &[u8]) -> Option<()> {
+    let mut text = Octets { rest: text };
+    for chunk in s.utf8_chunks() {
+        text.has_octets(chunk.valid().as_bytes())?;
+        if !chunk.invalid().is_empty() {
+            text.has_octets("\u{fffd}".as_bytes())?;
+        }
     }
+    text.end()
 }
 
-fn has_header(theirs: &[u8], at: usize, h: EthernetHeader) -> usize {
-    let destination = h.dst_addr;
-    let source = h.src_addr;
-    let vlan = h.vlan;
-    let at = has_octets(theirs, at, &destination);
-    let at = has_octets(theirs, at, &source);
-    let at = has_vlan(theirs, at, vlan);
-    let at = has16(theirs, at, h.ether_type);
-    let at = has16(theirs, at, h.appid);
-    has16(theirs, at, h.length)
+fn is_utf8(s: &[u8]) -> bool {
+    std::str::from_utf8(s).is_ok()
 }
 
-fn has_length(theirs: &[u8], at: usize, n: usize) -> usize {
-    has16(theirs, at, (n % 65536) as u16)
-}
-
-// A text: its length, and its lossy UTF-8 reading.
-fn has_text(theirs: &[u8], at: usize, s: &[u8]) -> usize {
-    let start = plus(at, 2);
-    let end = text::has_lossy(theirs, start, s);
-    if has_length(theirs, at, less(end, start)) == start {
-        return end;
-    }
-    WRONG
-}
-
-fn mark_of(presence: Presence) -> u8 {
+fn is_present(presence: Presence) -> bool {
     match presence {
-        Presence::Absent => 0,
-        Presence::Present => 1,
+        Presence::Absent => false,
+        Presence::Present => true,
     }
 }
 
-fn has_optional16(theirs: &[u8], at: usize, number: OptionalU16) -> usize {
-    match number {
-        OptionalU16::Absent => has16(theirs, has(theirs, at, 0), 0),
-        OptionalU16::Present(v) => has16(theirs, has(theirs, at, 1), v),
-    }
+fn sv_id(asdu: &SavAsdu) -> &[u8] {
+    asdu.msv_id.get(..asdu.msv_id_len).unwrap_or_default()
 }
 
-fn has_texts(theirs: &[u8], at: usize, a: SavAsdu) -> usize {
-    let sv_id = a.msv_id;
-    let dat_set = a.dat_set_octets;
-    let presence = a.dat_set;
-    let at = has_text(theirs, at, first(&sv_id, a.msv_id_len));
-    let at = has(theirs, at, mark_of(presence));
-    has_text(theirs, at, first(&dat_set, a.dat_set_len))
+fn dat_set(asdu: &SavAsdu) -> &[u8] {
+    asdu.dat_set_octets
+        .get(..asdu.dat_set_len)
+        .unwrap_or_default()
 }
 
-fn has_counters(theirs: &[u8], at: usize, a: SavAsdu) -> usize {
-    let refr_tm = a.refr_tm;
-    let refr_tm_octets = a.refr_tm_octets;
-    let at = has16(theirs, at, a.smp_cnt);
-    let at = has32(theirs, at, a.conf_rev);
-    let at = has(theirs, at, mark_of(refr_tm));
-    let at = has_octets(theirs, at, &refr_tm_octets);
-    has(theirs, at, a.smp_synch)
-}
-
-fn has_optional(theirs: &[u8], at: usize, a: SavAsdu) -> usize {
-    let smp_rate = a.smp_rate;
-    let smp_mod = a.smp_mod;
-    let gm_identity = a.gm_identity;
-    let gm_identity_octets = a.gm_identity_octets;
-    let at = has_optional16(theirs, at, smp_rate);
-    let at = has_optional16(theirs, at, smp_mod);
-    let at = has(theirs, at, mark_of(gm_identity));
-    has_octets(theirs, at, &gm_identity_octets)
+fn has_asdu(theirs: &mut Octets, asdu: &SavAsdu) -> Option<()> {
+    is_lossy(theirs.text()?, sv_id(asdu))?;
+    theirs.has(is_present(asdu.dat_set))?;
+    is_lossy(theirs.text()?, dat_set(asdu))?;
+    theirs.has(asdu.smp_cnt)?;
+    theirs.has(asdu.conf_rev)?;
+    theirs.has(is_present(asdu.refr_tm))?;
+    theirs.has(asdu.refr_tm_octets)?;
+    theirs.has(asdu.smp_synch)?;
+    theirs.has(asdu.smp_rate)?;
+    theirs.has(asdu.smp_mod)?;
+    theirs.has(is_present(asdu.gm_identity))?;
+    theirs.has(asdu.gm_identity_octets)
 }
 
 // A sample: the value of its count, its scale factor as the request has it, and its quality word.
-fn has_sample(
-    theirs: &[u8],
-    at: usize,
-    scale: u32,
-    counts: &[i32],
-    qualities: &[u32],
-    i: usize,
-) -> usize {
-    if counts.len() <= i || qualities.len() <= i {
-        return WRONG;
-    }
-    let value = scaling::value_of(counts[i], float_of(scale));
-    let at = has32(theirs, at, bits_of(value));
-    has32(theirs, has32(theirs, at, scale), qualities[i])
+fn has_sample(theirs: &mut Octets, count: i32, scale: u32, quality: u32) -> Option<()> {
+    let factor = std::num::f32_from_bits_with_nan(scale);
+    theirs.has(f32_to_bits_with_nan(scaling::value_of(count, factor)))?;
+    theirs.has(scale)?;
+    theirs.has(quality)
 }
 
-// The samples of one ASDU, whose first stands at base in the arrays. The scale factors have four octets each.
-fn has_samples(
-    theirs: &[u8],
-    at: usize,
-    scales: &[u8],
-    counts: &[i32],
-    qualities: &[u32],
-    base: usize,
-) -> usize {
-    let channels = scales.len() / 4;
-    let mut to = has(theirs, at, (channels % 256) as u8);
-    let mut i = 0;
-    while i < channels {
-        let scale = number32(scales, 4 * i);
-        to = has_sample(theirs, to, scale, counts, qualities, plus(base, i));
-        i += 1;
+fn has_asdus(theirs: &mut Octets, pdu: &SavPdu, samples: Samples) -> Option<()> {
+    let channels = u8::try_from(samples.scales.len()).ok()?;
+    let mut elements = samples.counts.iter().zip(samples.qualities);
+    for asdu in pdu.sav_asdu.iter().take(pdu.no_asdu as usize) {
+        has_asdu(theirs, asdu)?;
+        theirs.has(channels)?;
+        for scale in samples.scales {
+            let (count, quality) = elements.next()?;
+            has_sample(theirs, *count, scale, *quality)?;
+        }
     }
-    to
+    Some(())
 }
 
-fn has_asdus(
-    theirs: &[u8],
-    at: usize,
-    r: SavRead,
-    scales: &[u8],
-    counts: &[i32],
-    qualities: &[u32],
-) -> usize {
-    let n = r.no_asdu as usize;
-    if SavPdu::MAX_ASDUS < n {
-        return at;
+fn has_pdu(theirs: &mut Octets, pdu: &SavPdu, samples: Samples) -> Option<()> {
+    theirs.has(pdu.sim)?;
+    theirs.has(pdu.no_asdu)?;
+    theirs.has(is_present(pdu.security))?;
+    if theirs.text()? != pdu.security_octets.get(..pdu.security_len)? {
+        return None;
     }
-    let mut to = at;
-    let mut base = 0;
-    let mut k = 0;
-    while k < n {
-        let a = r.sav_asdu[k];
-        to = has_counters(theirs, has_texts(theirs, to, a), a);
-        to = has_optional(theirs, to, a);
-        to = has_samples(theirs, to, scales, counts, qualities, base);
-        base = plus(base, scales.len() / 4);
-        k += 1;
-    }
-    to
+    // The number of ASDU records.
+    theirs.has(pdu.no_asdu)?;
+    has_asdus(theirs, pdu, samples)
 }
 
-// The PDU's fields before its ASDUs.
-fn has_start(theirs: &[u8], at: usize, r: SavRead) -> usize {
-    let security = r.security;
-    let octets = r.security_octets;
-    let at = has_mark(theirs, at, r.sim);
-    let at = has16(theirs, at, r.no_asdu);
-    let at = has(theirs, at, mark_of(security));
-    let at = has_length(theirs, at, r.security_len);
-    let at = has_octets(theirs, at, first(&octets, r.security_len));
-    has16(theirs, at, r.no_asdu)
-}
-
-// What was read, held against the Rust's answer, in which the PDU starts at a place.
-fn ours_of(
-    theirs: &[u8],
-    at: usize,
-    r: SavRead,
-    scales: &[u8],
-    counts: &[i32],
-    qualities: &[u32],
-) -> Ours {
-    if r.number != 0 {
-        return refused(r.number, r.place);
+// Whether the Rust answers this PDU, after a header where one was read.
+fn answers(
+    theirs: Theirs,
+    header: Option<EthernetHeader>,
+    pdu: &SavPdu,
+    samples: Samples,
+) -> Option<()> {
+    let mut theirs = theirs.answer()?;
+    if let Some(header) = header {
+        has_header(&mut theirs, header)?;
     }
-    let at = has_start(theirs, at, r);
-    accepted(theirs, has_asdus(theirs, at, r, scales, counts, qualities))
-}
-
-// Whether the texts of an ASDU are UTF-8.
-fn texts_utf8(a: SavAsdu) -> bool {
-    let sv_id = a.msv_id;
-    let dat_set = a.dat_set_octets;
-    if !text::is_utf8(first(&sv_id, a.msv_id_len)) {
-        return false;
-    }
-    text::is_utf8(first(&dat_set, a.dat_set_len))
+    has_pdu(&mut theirs, pdu, samples)?;
+    theirs.end()
 }
 
 // Whether all texts are UTF-8; a record past noASDU has none.
-fn all_utf8(r: SavRead) -> bool {
-    let mut k = 0;
-    while k < SavPdu::MAX_ASDUS {
-        let a = r.sav_asdu[k];
-        if !texts_utf8(a) {
-            return false;
-        }
-        k += 1;
-    }
-    true
+fn all_utf8(pdu: &SavPdu) -> bool {
+    pdu.sav_asdu
+        .iter()
+        .all(|asdu| is_utf8(sv_id(asdu)) && is_utf8(dat_set(asdu)))
 }
 
 // Those that are alike are told apart by whether their texts are UTF-8.
-fn by_text(found: usize, r: SavRead) -> usize {
-    if found != class::ANSWERED {
-        return found;
+fn by_text(found: Class, pdu: Option<&SavPdu>) -> Class {
+    match pdu {
+        Some(pdu) if found == Class::Answered && !all_utf8(pdu) => Class::Lossy,
+        _ => found,
     }
-    if all_utf8(r) {
-        return class::ANSWERED;
-    }
-    class::LOSSY
 }
 
-// Whether the writer writes these octets again, in this form, of what was read.
-fn written_again(
-    s: &[u8],
+// A frame, with the number of its channels, and what ordinary reading of it answers.
+#[derive(Clone, Copy)]
+struct Reading<'a> {
+    s: &'a [u8],
     channels: usize,
-    fixed: bool,
-    r: SavRead,
-    counts: &[i32],
-    qualities: &[u32],
-) -> bool {
-    let mut buffer = [0u8; SavPdu::MAX_FRAME];
-    let header = r.header;
-    let answer = encode_smv::encode_smv(
-        header,
-        strict_smv::pdu_of(r),
-        channels,
-        fixed,
-        counts,
-        qualities,
-        &mut buffer,
-    );
-    let Written::At(size) = answer else {
-        return false;
-    };
-    check::same(s, first(&buffer, size))
+    read: Result<SavRead, Refusal>,
+    samples: Samples<'a>,
 }
 
-// What strict reading refuses; number 0 where it accepts.
-fn strict(s: &[u8], channels: usize, fixed: bool) -> Refusal {
-    let mut counts = [0i32; SavDataSetConfig::MAX_SAMPLES];
-    let mut qualities = [0u32; SavDataSetConfig::MAX_SAMPLES];
-    let r = strict_smv::read_strict(s, channels, fixed, &mut counts, &mut qualities);
-    Refusal {
-        number: r.number,
-        place: r.place,
+// The class of a reading that strict reading accepts: `utf8`, or `lossy` with text that isn't UTF-8.
+fn strictly(found: Class, utf8: Class, lossy: Class) -> Class {
+    match found {
+        Class::Answered => utf8,
+        Class::Lossy => lossy,
+        _ => found,
     }
 }
 
-// What strict reading in a form makes of octets, held to ordinary reading and to the writer: refused or accepted as it has to
-// be, or not.
-const REFUSED: usize = 0;
-
-const ACCEPTED: usize = 1;
-
-const OTHERWISE: usize = 4;
-
-// Strict reading in a form: it refuses what ordinary reading refuses, and accepts exactly what the
-// writer writes again of what was read.
-fn strict_in(
-    s: &[u8],
-    channels: usize,
-    fixed: bool,
-    r: SavRead,
-    counts: &[i32],
-    qualities: &[u32],
-) -> usize {
-    let strict = strict(s, channels, fixed);
-    if r.number != 0 {
-        if strict.number == r.number && strict.place == r.place {
-            return REFUSED;
+impl<'a> Reading<'a> {
+    // Whether the writer writes these octets again, in this form, of what was read.
+    fn is_written_again(&self, fixed: bool, read: &SavRead) -> bool {
+        let mut buffer = [0; SavPdu::MAX_FRAME];
+        let written = encode_smv::encode_smv(
+            read.header,
+            read.pdu,
+            self.channels,
+            fixed,
+            self.samples.counts,
+            self.samples.qualities,
+            &mut buffer,
+        );
+        match written {
+            Ok(size) => buffer.get(..size).is_some_and(|frame| frame == self.s),
+            Err(_) => false,
         }
-        return OTHERWISE;
     }
-    let again = written_again(s, channels, fixed, r, counts, qualities);
-    if strict.number == 6 && !again {
-        return REFUSED;
+
+    // What strict reading in a form answers.
+    fn strict(&self, fixed: bool) -> Result<SavRead, Refusal> {
+        let mut counts = [0; SavDataSetConfig::MAX_SAMPLES];
+        let mut qualities = [0; SavDataSetConfig::MAX_SAMPLES];
+        strict_smv::read_strict(self.s, self.channels, fixed, &mut counts, &mut qualities)
     }
-    if strict.number == 0 && again {
-        return ACCEPTED;
+
+    // Whether strict reading in a form accepts: it has to refuse what ordinary reading refuses, and to accept exactly what the
+    // writer writes again of what was read; None where it does otherwise.
+    fn is_accepted(&self, fixed: bool) -> Option<bool> {
+        match (self.strict(fixed), &self.read) {
+            (Err(strict), Err(refusal)) => (strict == *refusal).then_some(false),
+            (Err(strict), Ok(read)) => (strict.reason == Reason::NotAsWritten
+                && !self.is_written_again(fixed, read)).then_some(false),
+            (Ok(_), Ok(read)) => self.is_written_again(fixed, read).then_some(true),
+            (Ok(_), Err(_)) => None,
+        }
     }
-    OTHERWISE
+
+    // The class, with strict reading in both forms.
+    fn by_strict(&self, found: Class) -> Option<Class> {
+        let shortest = self.is_accepted(false)?;
+        let fixed = self.is_accepted(true)?;
+        Some(match (shortest, fixed) {
+            (false, false) => found,
+            (true, false) => strictly(found, Class::Shortest, Class::ShortestLossy),
+            (false, true) => strictly(found, Class::Fixed, Class::FixedLossy),
+            (true, true) => strictly(found, Class::Both, Class::BothLossy),
+        })
+    }
 }
 
-// The class, with strict reading in both forms: their sum, the fixed form's counted twice, is below 4 where each is as it has
-// to be.
-fn by_strict(
-    found: usize,
-    s: &[u8],
-    channels: usize,
-    r: SavRead,
-    counts: &[i32],
-    qualities: &[u32],
-) -> usize {
-    let shortest = strict_in(s, channels, false, r, counts, qualities);
-    let fixed = strict_in(s, channels, true, r, counts, qualities);
-    match shortest % 5 + 2 * (fixed % 5) {
-        0 => found,
-        1 => class::strictly(found, class::SHORTEST, class::SHORTEST_LOSSY),
-        2 => class::strictly(found, class::FIXED, class::FIXED_LOSSY),
-        3 => class::strictly(found, class::BOTH, class::BOTH_LOSSY),
-        _ => class::UNEXPLAINED,
-    }
-}
-
-pub fn frame(request: &[u8], theirs: &[u8]) -> usize {
-    let mut counts = [0i32; SavDataSetConfig::MAX_SAMPLES];
-    let mut qualities = [0u32; SavDataSetConfig::MAX_SAMPLES];
-    let channels = octet(request, 0) as usize;
-    let scales = part(request, 1, 4 * channels);
-    let s = after(request, 1 + 4 * channels);
-    let r = decode_smv::read_frame(s, channels, &mut counts, &mut qualities);
-    let header = r.header;
-    let at = has_header(theirs, has(theirs, 0, 0), header);
-    let ours = ours_of(theirs, at, r, scales, &counts, &qualities);
-    let found = by_text(reading_class::class_of_frame(s, channels, theirs, ours), r);
-    by_strict(found, s, channels, r, &counts, &qualities)
-}
-
-pub fn pdu(request: &[u8], theirs: &[u8]) -> usize {
-    let mut counts = [0i32; SavDataSetConfig::MAX_SAMPLES];
-    let mut qualities = [0u32; SavDataSetConfig::MAX_SAMPLES];
-    let start = number64(request, 0);
-    let channels = octet(request, 8) as usize;
-    let scales = part(request, 9, 4 * channels);
-    let s = after(request, 9 + 4 * channels);
-    let r = decode_smv::decode_smv(s, start, channels, &mut counts, &mut qualities);
-    let ours = ours_of(theirs, has(theirs, 0, 0), r, scales, &counts, &qualities);
-    let found = reading_class::class_of(s, start, channels, theirs, ours);
-    by_text(reading_class::with_answer(found, after(theirs, 1)), r)
-}
-
-pub fn header(request: &[u8], theirs: &[u8]) -> usize {
-    let found = ethernet_header::decode_ethernet_header(request);
-    let step = found.outcome;
-    let Outcome::Next(next) = step else {
-        let refusal = step.refusal();
-        let ours = refused(refusal.number, refusal.place);
-        return reading_class::of_header(request, theirs, ours);
+pub fn frame(mut request: Octets, theirs: Theirs) -> Option<Class> {
+    let channels: u8 = request.next()?;
+    let channels = channels as usize;
+    let scales = request.fields(channels)?;
+    let s = request.rest;
+    let mut counts = [0; SavDataSetConfig::MAX_SAMPLES];
+    let mut qualities = [0; SavDataSetConfig::MAX_SAMPLES];
+    let read = decode_smv::read_frame(s, channels, &mut counts, &mut qualities);
+    let samples = Samples {
+        scales,
+        counts: &counts,
+        qualities: &qualities,
     };
-    let header = found.header;
-    let at = has_header(theirs, has(theirs, 0, 0), header);
-    class::alike(accepted(theirs, has64(theirs, at, next.at)), theirs)
+    let ours = read.map(|read| answers(theirs, Some(read.header), &read.pdu, samples).is_some());
+    let found = reading_class::class_of_frame(s, channels, ours, theirs)?;
+    let pdu = read.as_ref().ok().map(|read| &read.pdu);
+    let reading = Reading {
+        s,
+        channels,
+        read,
+        samples,
+    };
+    reading.by_strict(by_text(found, pdu))
 }
 
-pub fn frame_test(request: &[u8], theirs: &[u8]) -> usize {
-    let is = ethernet_header::is_smv_frame(request);
-    let at = has_mark(theirs, has(theirs, 0, 0), is);
-    class::alike(accepted(theirs, at), theirs)
+pub fn pdu(mut request: Octets, theirs: Theirs) -> Option<Class> {
+    let start = request.next()?;
+    let channels: u8 = request.next()?;
+    let channels = channels as usize;
+    let scales = request.fields(channels)?;
+    let s = request.rest;
+    let mut counts = [0; SavDataSetConfig::MAX_SAMPLES];
+    let mut qualities = [0; SavDataSetConfig::MAX_SAMPLES];
+    let read = decode_smv::decode_smv(s, start, channels, &mut counts, &mut qualities);
+    let samples = Samples {
+        scales,
+        counts: &counts,
+        qualities: &qualities,
+    };
+    let ours = read.map(|pdu| answers(theirs, None, &pdu, samples).is_some());
+    let found = reading_class::class_of_pdu(s, start, channels, ours, theirs)?;
+    Some(by_text(found, read.as_ref().ok()))
+}
+
+pub fn header(request: Octets, theirs: Theirs) -> Option<Class> {
+    match ethernet_header::decode_ethernet_header(request.rest) {
+        Err(refusal) => reading_class::of_header(request.rest, refusal, theirs),
+        Ok((header, next)) => {
+            let mut theirs = theirs.answer()?;
+            has_header(&mut theirs, header)?;
+            theirs.has(next.at)?;
+            answered(theirs)
+        }
+    }
+}
+
+pub fn frame_test(request: Octets, theirs: Theirs) -> Option<Class> {
+    let mut theirs = theirs.answer()?;
+    theirs.has(ethernet_header::is_smv_frame(request.rest))?;
+    answered(theirs)
 }

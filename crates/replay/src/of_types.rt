@@ -1,118 +1,91 @@
 // The kinds q, b, d, n and w: quality, time quality and timestamp.
-use crate::answer::{accepted, has, has_mark, has_octets, has16, has32};
-use crate::class;
-use crate::octets::{eight, number32, octet};
-use types::{AccuracyBits, Quality, TimeQuality, Timestamp, Validity};
+use crate::answer::{Theirs, answered};
+use crate::class::Class;
+use crate::octets::Octets;
+use types::{Quality, TimeQuality, Timestamp};
 
-fn number_of(v: Validity) -> u8 {
-    match v {
-        Validity::Good => 0,
-        Validity::Invalid => 1,
-        Validity::Reserved => 2,
-        Validity::Questionable => 3,
+pub fn quality(mut request: Octets, theirs: Theirs) -> Option<Class> {
+    let q = Quality::from_sv(request.next()?);
+    let mut theirs = theirs.answer()?;
+    theirs.has(q.validity as u8)?;
+    for flag in [
+        q.overflow,
+        q.out_of_range,
+        q.bad_reference,
+        q.oscillatory,
+        q.failure,
+        q.old_data,
+        q.inconsistent,
+        q.inaccurate,
+        q.source_substituted,
+        q.test,
+        q.operator_blocked,
+    ] {
+        theirs.has(flag)?;
     }
+    theirs.has(q.to_sv())?;
+    theirs.has(q.is_good())?;
+    answered(theirs)
 }
 
-fn has_flags(theirs: &[u8], at: usize, q: Quality) -> usize {
-    let at = has_mark(theirs, at, q.overflow);
-    let at = has_mark(theirs, at, q.out_of_range);
-    let at = has_mark(theirs, at, q.bad_reference);
-    let at = has_mark(theirs, at, q.oscillatory);
-    let at = has_mark(theirs, at, q.failure);
-    let at = has_mark(theirs, at, q.old_data);
-    let at = has_mark(theirs, at, q.inconsistent);
-    let at = has_mark(theirs, at, q.inaccurate);
-    let at = has_mark(theirs, at, q.source_substituted);
-    let at = has_mark(theirs, at, q.test);
-    has_mark(theirs, at, q.operator_blocked)
+fn has_time_quality(theirs: &mut Octets, q: TimeQuality) -> Option<()> {
+    theirs.has(q.leap_second_known)?;
+    theirs.has(q.clock_failure)?;
+    theirs.has(q.clock_not_synchronized)?;
+    theirs.has(q.time_accuracy)
 }
 
-pub fn quality(request: &[u8], theirs: &[u8]) -> usize {
-    let q = Quality::from_sv(number32(request, 0));
-    let validity = q.validity;
-    let at = has(theirs, has(theirs, 0, 0), number_of(validity));
-    let at = has_flags(theirs, at, q);
-    let at = has32(theirs, at, q.to_sv());
-    let at = has_mark(theirs, at, q.is_good());
-    class::alike(accepted(theirs, at), theirs)
+pub fn time_quality(mut request: Octets, theirs: Theirs) -> Option<Class> {
+    let q = TimeQuality::from_byte(request.next()?);
+    let mut theirs = theirs.answer()?;
+    has_time_quality(&mut theirs, q)?;
+    theirs.has(q.to_byte())?;
+    theirs.has(q.accuracy_bits())?;
+    answered(theirs)
 }
 
-fn has_time_quality(theirs: &[u8], at: usize, q: TimeQuality) -> usize {
-    let at = has_mark(theirs, at, q.leap_second_known);
-    let at = has_mark(theirs, at, q.clock_failure);
-    let at = has_mark(theirs, at, q.clock_not_synchronized);
-    has(theirs, at, q.time_accuracy)
+pub fn timestamp(mut request: Octets, theirs: Theirs) -> Option<Class> {
+    let t = Timestamp::from_bytes(request.next()?);
+    let mut theirs = theirs.answer()?;
+    theirs.has(t.seconds)?;
+    theirs.has(t.fraction)?;
+    has_time_quality(&mut theirs, t.quality)?;
+    theirs.has(t.to_bytes())?;
+    theirs.has(t.fraction_as_nanos())?;
+    answered(theirs)
 }
 
-// The accuracy with its mark, as one number.
-fn accuracy(q: TimeQuality) -> u16 {
-    let accuracy = q.accuracy_bits();
-    match accuracy {
-        AccuracyBits::Bits(n) => 256 + n as u16,
-        AccuracyBits::Absent => 0,
+pub fn nanoseconds(mut request: Octets, theirs: Theirs) -> Option<Class> {
+    let fraction = request.next()?;
+    let mut theirs = theirs.answer()?;
+    let nanoseconds: u32 = theirs.next()?;
+    let answered = answered(theirs)?;
+    if nanoseconds == types::nanoseconds(fraction) {
+        return Some(answered);
     }
-}
-
-pub fn time_quality(request: &[u8], theirs: &[u8]) -> usize {
-    let q = TimeQuality::from_byte(octet(request, 0));
-    let at = has_time_quality(theirs, has(theirs, 0, 0), q);
-    let at = has(theirs, at, q.to_byte());
-    let at = has16(theirs, at, accuracy(q));
-    class::alike(accepted(theirs, at), theirs)
-}
-
-pub fn timestamp(request: &[u8], theirs: &[u8]) -> usize {
-    let t = Timestamp::from_bytes(eight(request, 0));
-    let at = has32(theirs, has(theirs, 0, 0), t.seconds);
-    let at = has32(theirs, at, t.fraction);
-    let q = t.quality;
-    let at = has_time_quality(theirs, at, q);
-    let again = t.to_bytes();
-    let at = has_octets(theirs, at, &again);
-    let at = has32(theirs, at, t.fraction_as_nanos());
-    class::alike(accepted(theirs, at), theirs)
-}
-
-pub fn nanoseconds(request: &[u8], theirs: &[u8]) -> usize {
-    let fraction = number32(request, 0);
-    let at = has32(theirs, has(theirs, 0, 0), types::nanoseconds(fraction));
-    let found = class::alike(accepted(theirs, at), theirs);
-    if found != class::UNEXPLAINED {
-        return found;
-    }
-    if fraction < 16777216 {
-        return class::UNEXPLAINED;
-    }
-    if number32(theirs, 1) as u64 != uncut(fraction) {
-        return class::UNEXPLAINED;
-    }
-    class::explained_if(octet(theirs, 0) == 0, class::LARGE_FRACTION)
+    (0x100_0000 <= fraction && nanoseconds as u64 == uncut(fraction)).then_some(
+        Class::LargeFraction,
+    )
 }
 
 // What the Rust answers: the nanoseconds of all 32 bits, cut to 32 bits.
 fn uncut(fraction: u32) -> u64 {
-    fraction as u64 * 1000000000 / 16777216 % 4294967296
+    fraction as u64 * 1_000_000_000 / 0x100_0000 % 0x1_0000_0000
 }
 
-fn time_of(request: &[u8]) -> Timestamp {
-    let quality = TimeQuality {
-        leap_second_known: octet(request, 8) == 1,
-        clock_failure: octet(request, 9) == 1,
-        clock_not_synchronized: octet(request, 10) == 1,
-        time_accuracy: octet(request, 11),
+pub fn timestamp_octets(mut request: Octets, theirs: Theirs) -> Option<Class> {
+    let t = Timestamp {
+        seconds: request.next()?,
+        fraction: request.next()?,
+        quality: TimeQuality {
+            leap_second_known: request.next()?,
+            clock_failure: request.next()?,
+            clock_not_synchronized: request.next()?,
+            time_accuracy: request.next()?,
+        },
     };
-    Timestamp {
-        seconds: number32(request, 0),
-        fraction: number32(request, 4),
-        quality,
-    }
-}
-
-pub fn timestamp_octets(request: &[u8], theirs: &[u8]) -> usize {
-    let t = time_of(request);
-    let q = t.quality;
-    let octets = t.to_bytes();
-    let at = has_octets(theirs, has(theirs, 0, 0), &octets);
-    let at = has16(theirs, at, accuracy(q));
-    class::alike(accepted(theirs, at), theirs)
+    let mut theirs = theirs.answer()?;
+    theirs.has(t.to_bytes())?;
+    theirs.has(t.quality.accuracy_bits())?;
+    answered(theirs)
 }

@@ -1,190 +1,176 @@
 // The class of two answers of a reader. The Rust has no limits, and panics where this project refuses.
-use crate::answer::Ours;
-use crate::octets::{after, less, number16, number64, octet, plus};
-use crate::{class, description, writing_class};
-use rt_services::{SavAsdu, SavDataSetConfig, SavPdu};
+use crate::answer::{Ours, Panic, Theirs, alike, ends_at};
+use crate::class::Class;
+use crate::description::{Description, Pdu};
+use rt_services::{Reason, Refusal, SavAsdu, SavDataSetConfig, SavPdu, Vlan};
+
+// The octets before a place.
+fn before(s: &[u8], place: usize) -> &[u8] {
+    s.get(..place).unwrap_or_default()
+}
+
+// The octet at a place; 0 past the end.
+fn octet(s: &[u8], at: usize) -> u8 {
+    s.get(at).copied().unwrap_or(0)
+}
 
 // Whether the content at a place is longer than a limit, by the length octets before it, in the form of one octet or of 81,
 // of 82, or of 83.
-fn longer(s: &[u8], place: usize, limit: usize) -> bool {
-    let before = number16(s, less(place, 2)) as usize;
-    if limit < before % 256 {
-        return true;
+fn is_longer(s: &[u8], place: usize, limit: usize) -> bool {
+    match before(s, place) {
+        [.., len] if limit < *len as usize => true,
+        [.., 0x82, high, low] => limit < u16::from_be_bytes([*high, *low]) as usize,
+        [.., 0x83, high, middle, low] => {
+            limit < u32::from_be_bytes([0, *high, *middle, *low]) as usize
+        }
+        _ => false,
     }
-    if octet(s, less(place, 3)) == 0x82 {
-        return limit < before;
-    }
-    if octet(s, less(place, 4)) == 0x83 {
-        return limit < before + octet(s, less(place, 3)) as usize * 65536;
-    }
-    false
 }
 
-// The octets of the tag and the length at a place.
-fn head_size(s: &[u8], at: usize) -> usize {
-    match octet(s, plus(at, 1)) {
+// The place after the tag and the length at a place.
+fn after_head(s: &[u8], at: usize) -> usize {
+    let len = octet(s, at.saturating_add(1));
+    let head = match len {
         0x81 => 3,
         0x82 => 4,
         0x83 => 5,
         _ => 2,
-    }
-}
-
-fn after_head(s: &[u8], at: usize) -> usize {
-    plus(at, head_size(s, at))
-}
-
-// The place of noASDU's first content octet, in a PDU from start on.
-fn no_asdu_at(s: &[u8], start: usize) -> usize {
-    after_head(s, after_head(s, start))
+    };
+    at.saturating_add(head)
 }
 
 // Whether noASDU, of so many octets at a place, is above its limit.
-fn many(s: &[u8], place: usize, octets: usize) -> bool {
-    match octets {
-        0 => 0x80 <= octet(s, place),
-        1 => SavPdu::MAX_ASDUS < octet(s, place) as usize,
-        2 => SavPdu::MAX_ASDUS < number16(s, place) as usize,
+fn are_many(s: &[u8], place: usize, octets: u8) -> bool {
+    let content = s.get(place..).unwrap_or_default();
+    match (octets, content) {
+        (0, [next, ..]) => 0x80 <= *next,
+        (1, [n, ..]) => SavPdu::MAX_ASDUS < *n as usize,
+        (2, [high, low, ..]) => SavPdu::MAX_ASDUS < u16::from_be_bytes([*high, *low]) as usize,
         _ => octets == 3,
     }
 }
 
-// How many octets noASDU has, at most three: the last of the length octets before it.
-fn no_asdu_octets(s: &[u8], place: usize) -> usize {
-    octet(s, less(place, 1)) as usize
-}
-
 // Whether what stands at a place is above its limit: noASDU, security, svID or datSet.
-fn above(s: &[u8], start: usize, place: usize) -> bool {
-    let no_asdu = no_asdu_at(s, start);
-    let octets = no_asdu_octets(s, no_asdu);
+fn is_above(s: &[u8], start: usize, place: usize) -> bool {
+    let no_asdu = after_head(s, after_head(s, start));
+    // The last of the length octets before noASDU says how many octets it has, at most three.
+    let octets = before(s, no_asdu).last().copied().unwrap_or(0);
     if place == no_asdu {
-        return many(s, place, octets);
+        return are_many(s, place, octets);
     }
-    let next = plus(no_asdu, octets);
+    let next = no_asdu.saturating_add(octets as usize);
     if place == after_head(s, next) {
-        if octet(s, next) != 0x81 {
-            return false;
-        }
-        return longer(s, place, SavPdu::MAX_SECURITY);
+        return octet(s, next) == 0x81 && is_longer(s, place, SavPdu::MAX_SECURITY);
     }
-    longer(s, place, SavAsdu::MAX_TEXT)
+    is_longer(s, place, SavAsdu::MAX_TEXT)
 }
 
 // Refused 4: what stands at the place is above its limit. Where the Rust refuses, it does so there or further on.
-fn limit(s: &[u8], start: usize, theirs: &[u8], place: usize) -> usize {
-    if !above(s, start, place) {
-        return class::UNEXPLAINED;
+fn limit(s: &[u8], start: usize, theirs: Theirs, place: usize) -> Option<Class> {
+    if !is_above(s, start, place) {
+        return None;
     }
-    match octet(theirs, 0) {
-        0 => class::LIMIT_ANSWERED,
-        1 => class::explained_if(place <= number64(theirs, 2), class::LIMIT_REFUSED),
-        _ => class::LIMIT_PANICKED,
+    match theirs {
+        Theirs::Answered(_) => Some(Class::LimitAnswered),
+        Theirs::Refused { place: further, .. } => (place <= further).then_some(Class::LimitRefused),
+        _ => Some(Class::LimitPanicked),
     }
-}
-
-// The class where the Rust answered, with a PDU in which something has to be above a limit.
-pub fn with_answer(found: usize, pdu: &[u8]) -> usize {
-    if found != class::LIMIT_ANSWERED {
-        return found;
-    }
-    class::explained_if(writing_class::above_limit(pdu), found)
 }
 
 // Whether a place is that of the first content octet of refrTm, by the tag 84 and the length octets before it.
-fn after_84(s: &[u8], place: usize) -> bool {
-    if octet(s, less(place, 2)) == 0x84 {
-        return true;
-    }
-    if octet(s, less(place, 3)) == 0x84 {
-        return octet(s, less(place, 2)) == 0x81;
-    }
-    if octet(s, less(place, 4)) == 0x84 {
-        return octet(s, less(place, 3)) == 0x82;
-    }
-    if octet(s, less(place, 5)) == 0x84 {
-        return octet(s, less(place, 4)) == 0x83;
-    }
-    false
+fn is_after_84(s: &[u8], place: usize) -> bool {
+    matches!(
+        before(s, place),
+        [.., 0x84, _] | [.., 0x84, 0x81, _] | [.., 0x84, 0x82, _, _] | [.., 0x84, 0x83, _, _, _]
+    )
 }
 
-// The place of the PDU in a frame.
-fn pdu_at(s: &[u8]) -> usize {
-    if number16(s, 12) == 0x8100 {
-        return 26;
+// Refused 1 where the Rust panics by a range: fewer than 8 octets of refrTm.
+fn lacks_refr_tm(s: &[u8], place: usize) -> bool {
+    s.len()
+        .checked_sub(place)
+        .is_some_and(|left| left < 8 && is_after_84(s, place))
+}
+
+// The Rust panics, by an index where an octet is past the end, and by a range or a copy at refrTm and where gmIdentity has
+// more than 8 octets.
+fn panicked(s: &[u8], panic: Panic, ours: Refusal) -> Option<Class> {
+    match ours.reason {
+        Reason::GmIdentityTooLong => {
+            (panic == Panic::Range && is_longer(s, ours.place, 8)).then_some(Class::PanicGmIdentity)
+        }
+        Reason::EndsTooSoon => {
+            if panic == Panic::Index {
+                (ours.place == s.len()).then_some(Class::PanicAtEnd)
+            } else {
+                lacks_refr_tm(s, ours.place).then_some(Class::PanicRefrTm)
+            }
+        }
+        _ => None,
     }
-    22
+}
+
+// The class of the answers for a PDU from start on.
+fn class_of(s: &[u8], start: usize, channels: usize, ours: Ours, theirs: Theirs) -> Option<Class> {
+    let Err(refusal) = ours else {
+        return alike(ours, theirs);
+    };
+    if SavDataSetConfig::MAX_CHANNELS < channels {
+        return (refusal == Reason::TooManyChannels.at(0)).then_some(Class::ManyChannels);
+    }
+    if refusal.reason == Reason::TooLongToHold {
+        return limit(s, start, theirs, refusal.place);
+    }
+    match theirs {
+        Theirs::Panicked(panic) => panicked(s, panic, refusal),
+        _ => alike(ours, theirs),
+    }
+}
+
+// The class of decode_smv's answers, for a PDU from start on. Where only the Rust answers, its PDU has something above a limit.
+pub fn class_of_pdu(
+    s: &[u8],
+    start: usize,
+    channels: usize,
+    ours: Ours,
+    theirs: Theirs,
+) -> Option<Class> {
+    let found = class_of(s, start, channels, ours, theirs)?;
+    if found == Class::LimitAnswered {
+        let mut octets = theirs.answer()?;
+        return Pdu::of(&mut octets)?.is_above_limit().then_some(found);
+    }
+    Some(found)
+}
+
+fn is_tagged(s: &[u8]) -> bool {
+    s.get(12..14)
+        .is_some_and(|tpid| tpid == Vlan::TPID.as_slice())
 }
 
 // Whether octets are too few for the header.
 fn lacks_header(s: &[u8]) -> bool {
-    s.len() < 18 || (s.len() < 22 && pdu_at(s) == 26)
-}
-
-// Refused 1 where the Rust panics by an index: an octet past the end.
-fn past_end(s: &[u8], place: usize) -> usize {
-    class::explained_if(place == s.len(), class::PANIC_AT_END)
-}
-
-// Refused 1 where the Rust panics by a range: fewer than 8 octets of refrTm.
-fn lacks_refr_tm(s: &[u8], place: usize) -> usize {
-    if s.len() < place {
-        return class::UNEXPLAINED;
-    }
-    if 7 < s.len() - place {
-        return class::UNEXPLAINED;
-    }
-    class::explained_if(after_84(s, place), class::PANIC_REFR_TM)
-}
-
-// The Rust panics, by an index (1) or by a range or a copy (2). Refused 5 where it does so by a copy: gmIdentity above 8
-// octets.
-fn panicked(s: &[u8], theirs: &[u8], ours: Ours) -> usize {
-    let by = octet(theirs, 1);
-    if ours.number == 5 {
-        return class::explained_if(
-            by == 2 && longer(s, ours.place, 8),
-            class::PANIC_GM_IDENTITY,
-        );
-    }
-    if ours.number != 1 {
-        return class::UNEXPLAINED;
-    }
-    if by == 1 {
-        return past_end(s, ours.place);
-    }
-    lacks_refr_tm(s, ours.place)
+    s.len() < if is_tagged(s) { 22 } else { 18 }
 }
 
 // The class where a frame is shorter than its header, which is refused before any limit.
-pub fn of_header(s: &[u8], theirs: &[u8], ours: Ours) -> usize {
-    if octet(theirs, 0) != class::PANICKED {
-        return class::UNEXPLAINED;
+pub fn of_header(s: &[u8], ours: Refusal, theirs: Theirs) -> Option<Class> {
+    match theirs {
+        Theirs::Panicked(_) => ends_at(ours, s.len(), Class::PanicHeader),
+        _ => None,
     }
-    class::at_end(ours, s.len(), class::PANIC_HEADER)
 }
 
 // The class of the frame reader's answers.
-pub fn class_of_frame(s: &[u8], channels: usize, theirs: &[u8], ours: Ours) -> usize {
-    if channels <= SavDataSetConfig::MAX_CHANNELS {
-        if lacks_header(s) {
-            return of_header(s, theirs, ours);
-        }
+pub fn class_of_frame(s: &[u8], channels: usize, ours: Ours, theirs: Theirs) -> Option<Class> {
+    if channels <= SavDataSetConfig::MAX_CHANNELS && lacks_header(s) {
+        return of_header(s, ours.err()?, theirs);
     }
-    let found = class_of(s, pdu_at(s), channels, theirs, ours);
-    with_answer(found, after(theirs, 1 + description::PDU))
-}
-
-// The class of the answers for a PDU from start on.
-pub fn class_of(s: &[u8], start: usize, channels: usize, theirs: &[u8], ours: Ours) -> usize {
-    if SavDataSetConfig::MAX_CHANNELS < channels {
-        return class::explained_if(ours.number == 8 && ours.place == 0, class::MANY_CHANNELS);
+    let start = if is_tagged(s) { 26 } else { 22 };
+    let found = class_of(s, start, channels, ours, theirs)?;
+    if found == Class::LimitAnswered {
+        let description = Description::of(theirs.answer()?)?;
+        return description.pdu.is_above_limit().then_some(found);
     }
-    if ours.number == 4 {
-        return limit(s, start, theirs, ours.place);
-    }
-    if octet(theirs, 0) == class::PANICKED {
-        return panicked(s, theirs, ours);
-    }
-    class::alike(ours, theirs)
+    Some(found)
 }

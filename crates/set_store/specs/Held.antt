@@ -1,18 +1,23 @@
 -- What the loops over a store find, set by set; and what that says of the store as a list.
-use Rattle.std.specs.Prelude.{◌≡◌, List, [], ◌∷◌, ◌++◌, Bool, take, drop, get_or, Float, ltb, eqb}
+use Rattle.std.specs.Prelude.{◌≡◌, List, [], ◌∷◌, Bool, take, drop, get_or, Float, ltb, eqb}
 use Rattle.std.proofs.Math.Path.{refl}
-use Rattle.std.proofs.Common.{ap, ◌∙◌, append-nil, add-one, drop_of_length-le, length-take-le, take-suc}
-use Rattle.std.proofs.Math.Option.{some, none}
+use Rattle.std.proofs.Common.{sym, ap, ◌∙◌, append-nil, append_assoc, add-one, drop_of_length-le, length-drop, take-suc}
+use Rattle.std.proofs.lemmas.List.{drop-drop, get_or-drop}
+use borrow.Rule.Slice.PartMut.{put_mid}
+use Rattle.definition.specs.Over.{take_none}
+use Rattle.std.specs.Prelude.{Option, Some, None}
+use Rattle.std.specs.Option.{IfSome}
 use Rattle.std.proofs.Math.Bool.{true, false, cond}
 use Prim.Native.Nat.{ℕ, zero, suc, ◌+◌, ◌-◌, ◌*◌, ◌≤◌, ◌<◌}
 use native.Mathlib.Omega.{arith}
-use Rattle.std.proofs.Math.ListN.{length, set, length-append}
+use Rattle.std.proofs.Math.ListN.{length, length-append}
 use Rattle.std.proofs.Math.Seq.{sets}
 use Rattle.std.proofs.lemmas.List.Edits.{sets-eq}
 use borrow.Author.Tests.{lt-ltb, le-ltb, eq-eqb, ne_eqb}
 use Rattle.definition.specs.Frame.{and, all}
 use Rattle.definition.specs.Flat.{nth}
 use Rattle.definition.specs.Scaling.{up_to}
+use Rattle.rt_services.specs.declared.SavDataSetConfig.{SavDataSetConfig}
 use Rattle.data_sets.specs.DataSets.{higher, find, held_in, set_at, sets_from, store_of}
 
 -- ---- higher than all held
@@ -50,22 +55,22 @@ module _ (k : List ℕ) (rev n i : ℕ) where
 
 -- ---- which is under a confRev
 
--- of m sets, from set i on; i + m where none is
-unfoldable pub position_from : List ℕ → ℕ → ℕ → ℕ → ℕ
-position_from k rev i zero = i
-position_from k rev i (suc m) = cond (eqb (nth k (1 + i * 2)) rev) i (position_from k rev (suc i) m)
+-- of m sets, from set i on
+unfoldable pub position_from : List ℕ → ℕ → ℕ → ℕ → Option ℕ
+position_from k rev i zero = None
+position_from k rev i (suc m) = cond (eqb (nth k (1 + i * 2)) rev) (Some i) (position_from k rev (suc i) m)
 
-abbrev pub position_in : List ℕ → ℕ → ℕ
+abbrev pub position_in : List ℕ → ℕ → Option ℕ
 position_in k rev = position_from k rev 0 (held_in k)
 
 -- the loop
 module _ (k : List ℕ) (rev n i : ℕ) where
-  pub position_end : n ≤ i → position_from k rev i (n - i) ≡ i
+  pub position_end : n ≤ i → position_from k rev i (n - i) ≡ None
   unfolding position_from
   position_end h = let e : n - i ≡ 0 = omega arith in rw e
 
   module _ (less : i < n) where
-    pub position_stop : nth k (1 + i * 2) ≡ rev → position_from k rev i (n - i) ≡ i
+    pub position_stop : nth k (1 + i * 2) ≡ rev → position_from k rev i (n - i) ≡ Some i
     unfolding position_from
     position_stop h = rw (one_left k rev n i less, eq-eqb _ _ h)
 
@@ -73,84 +78,74 @@ module _ (k : List ℕ) (rev n i : ℕ) where
     unfolding position_from
     position_next h = rw (one_left k rev n i less, ne_eqb _ _ h, add-one)
 
+-- the set at a position
 module _ (k : List ℕ) (f : List Float) (rev : ℕ) where
-  found_from : (i m : ℕ) → position_from k rev i m < i + m → find (sets_from k f i m) rev ≡ some (set_at k f (position_from k rev i m)).1
+  abbrev at_position : Option ℕ → Option SavDataSetConfig
+  at_position None = None
+  at_position (Some i) = Some (set_at k f i).1
+
+  found_from : (i m : ℕ) → find (sets_from k f i m) rev ≡ at_position (position_from k rev i m)
   unfolding find sets_from position_from
-  found_from i zero h = absurd (omega arith)
-  found_from i (suc m) h = go (eqb (nth k (1 + i * 2)) rev) h (found_from (suc i) m)
+  found_from i zero = refl
+  found_from i (suc m) = go (eqb (nth k (1 + i * 2)) rev) (found_from (suc i) m)
     where
-      go : (t : Bool) → cond t i (position_from k rev (suc i) m) < i + suc m
-          → (position_from k rev (suc i) m < suc i + m → find (sets_from k f (suc i) m) rev ≡ some (set_at k f (position_from k rev (suc i) m)).1)
-          → cond t (some (set_at k f i).1) (find (sets_from k f (suc i) m) rev) ≡ some (set_at k f (cond t i (position_from k rev (suc i) m))).1
-      go true h e = refl
-      go false h e = e (omega arith)
+      go : (t : Bool) → find (sets_from k f (suc i) m) rev ≡ at_position (position_from k rev (suc i) m)
+          → cond t (Some (set_at k f i).1) (find (sets_from k f (suc i) m) rev) ≡ at_position (cond t (Some i) (position_from k rev (suc i) m))
+      go true e = refl
+      go false e = e
 
-  missing_from : (i m : ℕ) → i + m ≤ position_from k rev i m → find (sets_from k f i m) rev ≡ none
-  unfolding find sets_from position_from
-  missing_from i zero h = refl
-  missing_from i (suc m) h = go (eqb (nth k (1 + i * 2)) rev) h (missing_from (suc i) m)
+  pub found_at : {i : ℕ} → Some i ≡ position_in k rev → find (store_of k f) rev ≡ Some (set_at k f i).1
+  unfolding store_of
+  found_at e = rw (← e) at (found_from 0 (held_in k))
+
+  pub not_found : None ≡ position_in k rev → find (store_of k f) rev ≡ None
+  unfolding store_of
+  not_found e = rw (← e) at (found_from 0 (held_in k))
+
+-- it is one of the sets held
+module _ (k : List ℕ) (rev : ℕ) where
+  next : {n m : ℕ} (o : Option ℕ) → n ≤ m → IfSome o (λ j. j < n) → IfSome o (λ j. j < m)
+  next None l h = tt
+  next (Some j) l h = omega arith
+
+  below_from : (i m : ℕ) → IfSome (position_from k rev i m) (λ j. j < i + m)
+  unfolding position_from
+  below_from i zero = tt
+  below_from i (suc m) = go (eqb (nth k (1 + i * 2)) rev) (below_from (suc i) m)
     where
-      go : (t : Bool) → i + suc m ≤ cond t i (position_from k rev (suc i) m)
-          → (suc i + m ≤ position_from k rev (suc i) m → find (sets_from k f (suc i) m) rev ≡ none)
-          → cond t (some (set_at k f i).1) (find (sets_from k f (suc i) m) rev) ≡ none
-      go true h e = absurd (omega arith)
-      go false h e = e (omega arith)
+      go : (t : Bool) → IfSome (position_from k rev (suc i) m) (λ j. j < suc i + m) → IfSome (cond t (Some i) (position_from k rev (suc i) m)) (λ j. j < i + suc m)
+      go true h = omega arith
+      go false h = next (position_from k rev (suc i) m) (omega arith) h
 
-  -- from the place i, and how many are held
-  module _ {i n : ℕ} (at : i ≡ position_in k rev) (held : n ≡ held_in k) where
-    pub found_at : i < n → find (store_of k f) rev ≡ some (set_at k f i).1
-    unfolding store_of
-    found_at h = found_from 0 (held_in k) (omega (arith, at, held)) ∙ rw at
+  pub position_held : {i : ℕ} → Some i ≡ position_in k rev → i < held_in k
+  position_held {i} e = let h : i < 0 + held_in k = rw (← e) at (below_from 0 (held_in k)) in omega arith
 
-    pub not_found : n ≤ i → find (store_of k f) rev ≡ none
-    unfolding store_of
-    not_found h = missing_from 0 (held_in k) (omega (arith, at, held))
+-- ---- elements of an array put in the place of others
 
--- ---- elements put one after the other
+module _ {A : Type 0} (l : List A) (at k : ℕ) (xs : List A) where
+  pub put_sets : k ≡ length xs → at + k ≤ length l → put_mid at k l xs ≡ sets l at xs
+  put_sets e h = let g : at + length xs ≤ length l = omega arith in rw (drop-drop, e, sets-eq xs l at g) (sym (append_assoc (take at l) xs (drop (at + length xs) l)))
 
--- one more, after the others
-pub one_put : {A : Type 0} (l : List A) (at : ℕ) (xs : List A) (v : A) → set (sets l at xs) (at + length xs) v ≡ sets l at (xs ++ (v ∷ []))
-one_put l at [] v = let e : at + 0 ≡ at = omega arith in rw e
-one_put l at (x ∷ xs) v = let e : at + suc (length xs) ≡ suc at + length xs = omega arith in rw e (one_put (set l at x) (suc at) xs v)
+module _ {A : Type 0} (l xs : List A) where
+  pub all_sets : length l ≡ length xs → sets l 0 xs ≡ xs
+  all_sets e =
+      let h : 0 + length xs ≤ length l = omega arith in
+      let d : drop (0 + length xs) l ≡ [] = drop_of_length-le l (omega arith) in
+      sets-eq xs l 0 h ∙ rw d (append-nil xs)
 
-module _ {A : Type 0} (l : List A) (at : ℕ) (xs : List A) where
-  pub none_taken : l ≡ sets l at (take 0 xs)
-  none_taken = go xs
-    where
-      go : (xs : List A) → l ≡ sets l at (take 0 xs)
-      go [] = refl
-      go (x ∷ xs) = refl
+pub up_length : {A : Type 0} (m : ℕ) (f : ℕ → A) → length (up_to m f) ≡ m
+unfolding up_to
+up_length zero f = refl
+up_length (suc m) f = omega (arith, length-append (up_to m f) (f m ∷ []), up_length m f)
 
-  pub one_taken : (j : ℕ) (d : A) → j < length xs → {m : List A} → m ≡ sets l at (take j xs) → set m (at + j) (get_or xs j d) ≡ sets l at (take (j + 1) xs)
-  one_taken j d h e =
-      let k : length (take j xs) ≡ j = length-take-le j xs (omega arith) in
-      let p : set (sets l at (take j xs)) (at + j) (get_or xs j d) ≡ sets l at (take j xs ++ (get_or xs j d ∷ [])) = rw k at (one_put l at (take j xs) (get_or xs j d)) in
-      rw (e, add-one, take-suc xs j d h) p
-
-module _ {A : Type 0} (l : List A) (f : ℕ → A) where
-  up_length : (j : ℕ) → length (up_to j f) ≡ j
+module _ {A : Type 0} (l : List A) (at : ℕ) (d : A) where
+  -- the elements from a place on, one by one
+  pub part_up : (m : ℕ) → at + m ≤ length l → take m (drop at l) ≡ up_to m (λ j. get_or l (at + j) d)
   unfolding up_to
-  up_length zero = refl
-  up_length (suc j) = omega (arith, length-append (up_to j f) (f j ∷ []), up_length j)
-
-  pub none_up : l ≡ sets l 0 (up_to 0 f)
-  unfolding up_to
-  none_up = refl
-
-  pub one_up : (j : ℕ) {m : List A} → m ≡ sets l 0 (up_to j f) → set m j (f j) ≡ sets l 0 (up_to (j + 1) f)
-  unfolding up_to
-  one_up j e =
-      let k : 0 + length (up_to j f) ≡ j = omega (arith, up_length j) in
-      let p : set (sets l 0 (up_to j f)) j (f j) ≡ sets l 0 (up_to j f ++ (f j ∷ [])) = rw k at (one_put l 0 (up_to j f) (f j)) in
-      rw (e, add-one) p
-
-  -- all of an array
-  pub all_up : (j : ℕ) → length l ≡ j → sets l 0 (up_to j f) ≡ up_to j f
-  all_up j e =
-      let h : 0 + length (up_to j f) ≤ length l = omega (arith, up_length j) in
-      let most : length l ≤ 0 + length (up_to j f) = omega (arith, up_length j) in
-      let d : drop (0 + length (up_to j f)) l ≡ [] = drop_of_length-le l most in
-      sets-eq (up_to j f) l 0 h ∙ rw d (append-nil (up_to j f))
+  part_up zero h = take_none (drop at l)
+  part_up (suc m) h =
+      let g : m < length (drop at l) = omega (arith, length-drop at l) in
+      rw (take-suc (drop at l) m d g, part_up m (omega arith), get_or-drop at l m d)
 
 -- a set, from its parts
 pub set_is : (k : List ℕ) (f : List Float) (i : ℕ) {n : ℕ} {l : List Float} → n ≡ (set_at k [] i).1.channels → l ≡ (set_at [] f i).1.scale_factor

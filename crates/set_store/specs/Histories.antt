@@ -1,6 +1,6 @@
 -- Stores that calls of the additions make of an empty one, taken or refused: they stand for the stores of the definition, so what is
 -- proved of these is so of them.
-use Rattle.std.specs.Prelude.{◌≡◌, refl, List, [], ◌∷◌, ◌++◌, ℕ, ◌+◌, ◌*◌, ◌≤◌, length, Float}
+use Rattle.std.specs.Prelude.{◌≡◌, refl, List, [], ◌∷◌, ◌++◌, ℕ, ◌+◌, ◌*◌, ◌≤◌, length, Float, Result}
 use Rattle.std.proofs.Common.{sym, ap, ◌∙◌, arith}
 use Rattle.std.proofs.lemmas.List.{length-replicate}
 use Rattle.std.proofs.lemmas.List.Edits.{sets}
@@ -15,7 +15,7 @@ use Rattle.data_sets.specs.DataSets.{store_numbers, store_scales, added, stored,
 use Rattle.data_sets.proofs.TwoArrays.{store_after}
 use Rattle.data_sets.proofs.Store.{Made, made}
 use Rattle.data_sets.proofs.Theorems.{Lasting}
-use Rattle.set_store.specs.declared.Addition.{Addition}
+use Rattle.rt_services.specs.declared.Refusal.{Refusal}
 use Rattle.set_store.specs.Told.{empty_store, AddedTo}
 
 -- the two arrays after the additions xs, one after the other, each to the arrays that the one before left; a set of up to 24 channels
@@ -32,7 +32,7 @@ none_added = empty (length-replicate {A = ℕ} store_numbers 0) (length-replicat
 
 -- A call of add or add_to is one more addition, taken or refused.
 pub one_added : {xs : List (ℕ × SavDataSetConfig)} {k : List ℕ} {f : List Float} → Built xs k f → {rev : ℕ} {x : SavDataSetConfig} → length x.scale_factor ≡ max_channels
-    → {r : Addition} {k' : List ℕ} {f' : List Float} → AddedTo rev x k f r k' f' → Built (xs ++ ((rev, x) ∷ [])) k' f'
+    → {r : Result ℕ Refusal} {k' : List ℕ} {f' : List Float} → AddedTo rev x k f r k' f' → Built (xs ++ ((rev, x) ∷ [])) k' f'
 one_added b {rev} {x} whole a = more rev x b (λ few. whole) a.numbers a.scales
 
 numbers_long : (r : Answer (List (ℕ × SavDataSetConfig))) (k : List ℕ) (rev : ℕ) (x : SavDataSetConfig) → length (numbers_after r k rev x) ≡ length k

@@ -6,13 +6,13 @@ ghost use Rattle.std.specs.Prelude.{◌≡◌, [], ◌∷◌, ◌+◌, ◌*◌, 
 ghost use Rattle.std.proofs.lemmas.List.Edits.{sets};
 ghost use Rattle.definition.specs.Limits.{max_channels, max_sets};
 ghost use Rattle.data_sets.specs.DataSets.{held_in, set_at, store_of, find};
-ghost use Rattle.set_store.specs.Told.{empty_store, found_as, AddedTo, AddedIs};
+ghost use Rattle.set_store.specs.Told.{empty_store, AddedTo};
 ghost use Rattle.set_store.specs.Held.{above_all, position_in};
 
-use rt_services::{Refusal, SavDataSetConfig};
+use rt_services::{Reason, Refusal, SavDataSetConfig};
 
 // The numbers are how many sets are held, then confRev and channels of each; the scale factors are 24
-// of each.
+// of each. Two arrays, and functions over them, since C lends a store as two arrays.
 #[derive(Clone, Copy)]
 pub struct DataSets {
     pub numbers: [u32; DataSets::NUMBERS],
@@ -35,68 +35,52 @@ impl DataSets {
             scales: [0.0; DataSets::SCALES],
         }
     }
-}
 
-// What an addition answers: where it is taken, how many sets are held.
-#[derive(Clone, Copy)]
-pub enum Addition {
-    Refused(Refusal),
-    Taken(usize),
-}
+    // One more data set; the answer is how many sets are then held. A refusal leaves the store.
+    pub fn add(&mut self, conf_rev: u32, set: SavDataSetConfig) -> Result<usize, Refusal>
+        ensures { AddedTo conf_rev set self.old.numbers self.old.scales result self.new.numbers self.new.scales }
+    {
+        add_to(&mut self.numbers, &mut self.scales, conf_rev, set)
+    }
 
-// The answer, and the store after the addition, taken or refused.
-#[derive(Clone, Copy)]
-pub struct Added {
-    pub outcome: Addition,
-    pub store: DataSets,
-}
-
-// Whether there is a set, and the set; without channels where there is none.
-#[derive(Clone, Copy)]
-pub struct Found {
-    pub is: bool,
-    pub set: SavDataSetConfig,
+    // The set under a confRev.
+    pub fn find(&self, conf_rev: u32) -> Option<SavDataSetConfig>
+        ensures { result ≡ find (store_of self.now.numbers self.now.scales) conf_rev }
+    {
+        let i = position(&self.numbers, conf_rev)?;
+        Some(set_at(&self.numbers, &self.scales, i))
+    }
 }
 
 // How many sets the store holds.
 pub fn held(numbers: &[u32; DataSets::NUMBERS]) -> usize
     ensures { result ≡ held_in numbers.now }
 {
-    let n = numbers[0];
-    if n < DataSets::MAX_SETS as u32 {
-        return n as usize;
-    }
-    DataSets::MAX_SETS
+    (numbers[0] as usize).min(DataSets::MAX_SETS)
 }
 
-// Whether a confRev is higher than all held.
+// Whether a confRev is higher than all held: over places, since every second number is a confRev.
 fn is_higher(numbers: &[u32; DataSets::NUMBERS], conf_rev: u32) -> bool
     ensures { result ≡ above_all numbers.now conf_rev }
 {
-    let n = held(numbers);
-    let mut i = 0;
-    while i < n {
+    for i in 0..held(numbers) {
         if conf_rev <= numbers[1 + i * 2] {
             return false;
         }
-        i += 1;
     }
     true
 }
 
-// Which of the sets is that under a confRev; how many there are where none is.
-pub fn position(numbers: &[u32; DataSets::NUMBERS], conf_rev: u32) -> usize
+// Which of the sets is that under a confRev.
+pub fn position(numbers: &[u32; DataSets::NUMBERS], conf_rev: u32) -> Option<usize>
     ensures { result ≡ position_in numbers.now conf_rev }
 {
-    let n = held(numbers);
-    let mut i = 0;
-    while i < n {
+    for i in 0..held(numbers) {
         if numbers[1 + i * 2] == conf_rev {
-            return i;
+            return Some(i);
         }
-        i += 1;
     }
-    n
+    None
 }
 
 // How many channels set i has.
@@ -116,11 +100,8 @@ pub fn scales_at(
     requires { i < max_sets }
     ensures { factors.new ≡ sets factors.old 0 (set_at [] scales.now i).1.scale_factor }
 {
-    let mut j = 0;
-    while j < SavDataSetConfig::MAX_CHANNELS {
-        factors[j] = scales[i * SavDataSetConfig::MAX_CHANNELS + j];
-        j += 1;
-    }
+    let at = i * SavDataSetConfig::MAX_CHANNELS;
+    factors.copy_from_slice(&scales[at..at + SavDataSetConfig::MAX_CHANNELS]);
 }
 
 // Set i.
@@ -132,23 +113,11 @@ pub fn set_at(
     requires { i < max_sets }
     ensures { result ≡ (set_at numbers.now scales.now i).1 }
 {
-    let mut scale_factor = [0.0f32; SavDataSetConfig::MAX_CHANNELS];
+    let mut scale_factor = [0.0; SavDataSetConfig::MAX_CHANNELS];
     scales_at(scales, i, &mut scale_factor);
     SavDataSetConfig {
         channels: channels_at(numbers, i) as usize,
         scale_factor,
-    }
-}
-
-// The scale factors of set i become those of this one.
-fn put_scales(scales: &mut [f32; DataSets::SCALES], i: usize, set: SavDataSetConfig)
-    requires { i < max_sets }
-    ensures { scales.new ≡ sets scales.old (i * max_channels) set.scale_factor }
-{
-    let mut j = 0;
-    while j < SavDataSetConfig::MAX_CHANNELS {
-        scales[i * SavDataSetConfig::MAX_CHANNELS + j] = set.scale_factor[j];
-        j += 1;
     }
 }
 
@@ -167,75 +136,27 @@ fn put_set(
     numbers[0] = (i + 1) as u32;
     numbers[1 + i * 2] = conf_rev;
     numbers[2 + i * 2] = set.channels as u32;
-    put_scales(scales, i, set);
+    let at = i * SavDataSetConfig::MAX_CHANNELS;
+    scales[at..at + SavDataSetConfig::MAX_CHANNELS].copy_from_slice(&set.scale_factor);
 }
 
-// One more data set. Refused as 8, then as 14; a refusal leaves the arrays.
+// One more data set; the answer is how many sets are then held. Refused as 8, then as 14; a refusal
+// leaves the arrays.
 pub fn add_to(
     numbers: &mut [u32; DataSets::NUMBERS],
     scales: &mut [f32; DataSets::SCALES],
     conf_rev: u32,
     set: SavDataSetConfig,
-) -> Addition
+) -> Result<usize, Refusal>
     ensures { AddedTo conf_rev set numbers.old scales.old result numbers.new scales.new }
 {
     if SavDataSetConfig::MAX_CHANNELS < set.channels {
-        return Addition::Refused(Refusal {
-            number: Refusal::TOO_MANY_CHANNELS,
-            place: 0,
-        });
-    }
-    if !is_higher(numbers, conf_rev) {
-        return Addition::Refused(Refusal {
-            number: Refusal::SET_NOT_ADDED,
-            place: 0,
-        });
+        return Err(Reason::TooManyChannels.at(0));
     }
     let n = held(numbers);
-    if DataSets::MAX_SETS <= n {
-        return Addition::Refused(Refusal {
-            number: Refusal::SET_NOT_ADDED,
-            place: 0,
-        });
+    if !is_higher(numbers, conf_rev) || DataSets::MAX_SETS <= n {
+        return Err(Reason::SetNotAdded.at(0));
     }
     put_set(numbers, scales, n, conf_rev, set);
-    Addition::Taken(n + 1)
+    Ok(n + 1)
 }
-
-// One more data set.
-pub fn add(store: DataSets, conf_rev: u32, set: SavDataSetConfig) -> Added
-    ensures { AddedIs conf_rev set store result }
-{
-    let mut numbers = store.numbers;
-    let mut scales = store.scales;
-    let outcome = add_to(&mut numbers, &mut scales, conf_rev, set);
-    Added {
-        outcome,
-        store: DataSets { numbers, scales },
-    }
-}
-
-// The set under a confRev.
-pub fn find_set(store: DataSets, conf_rev: u32) -> Found
-    ensures { result ≡ found_as (find (store_of store.numbers store.scales) conf_rev) }
-{
-    let numbers = store.numbers;
-    let scales = store.scales;
-    let i = position(&numbers, conf_rev);
-    if held(&numbers) <= i {
-        return Found {
-            is: false,
-            set: NO_DATA_SET,
-        };
-    }
-    Found {
-        is: true,
-        set: set_at(&numbers, &scales, i),
-    }
-}
-
-// A data set without channels.
-pub const NO_DATA_SET: SavDataSetConfig = SavDataSetConfig {
-    channels: 0,
-    scale_factor: [0.0; SavDataSetConfig::MAX_CHANNELS],
-};

@@ -1,87 +1,73 @@
 // A frame read by the calls that answer records. A record that is read is written again, as the octets
 // of a reading; the frame's size and Length are its first two numbers.
-use crate::frames::first;
-use crate::{Frame, Reading};
-use rt_services::{SavDataSetConfig, SavRead, Written};
+use crate::Frame;
+use crate::readings::{Arrays, Reading, SetBits};
+use rt_services::{SavDataSetConfig, SavRead};
 use set_store::DataSets;
 
-// What was read, written again; of a refusal nothing can be written.
-fn again(
-    read: SavRead,
-    set: SavDataSetConfig,
-    counts: [i32; SavDataSetConfig::MAX_SAMPLES],
-    words: [u32; SavDataSetConfig::MAX_SAMPLES],
-) -> Reading {
-    let header = read.header;
-    let mut numbers = [77; layout::MAX_NUMBERS];
-    let mut octets = [77; layout::MAX_OCTETS];
+// The set of a reading that is refused, which hands none back.
+pub const NO_SET: SavDataSetConfig = SavDataSetConfig {
+    channels: 0,
+    scale_factor: [0.0; SavDataSetConfig::MAX_CHANNELS],
+};
+
+// Writes what was read again, beside its samples.
+fn write_again(read: SavRead, channels: usize, arrays: &mut Arrays) {
     let written = encode_smv::encode_smv(
-        header,
-        strict_smv::pdu_of(read),
-        set.channels,
+        read.header,
+        read.pdu,
+        channels,
         false,
-        &counts,
-        &words,
-        &mut octets,
+        &arrays.counts,
+        &arrays.words,
+        &mut arrays.octets,
     );
-    if let Written::At(size) = written {
-        numbers[0] = (size % 65536) as u32;
-        numbers[1] = header.length as u32;
-    }
-    let scale_factor = set.scale_factor;
-    Reading {
-        number: read.number,
-        place: read.place,
-        channels: set.channels,
-        scale_factor,
-        numbers,
-        octets,
-        counts,
-        words,
+    if let Ok(size) = written {
+        arrays.numbers[0] = (size % 65536) as u32;
+        arrays.numbers[1] = u32::from(read.header.length);
     }
 }
 
 // A frame by its confRev, with room for so many counts and quality words.
-pub fn by_sets(frame: Frame, room: usize, store: DataSets) -> Reading {
-    let mut counts = [77; SavDataSetConfig::MAX_SAMPLES];
-    let mut words = [77; SavDataSetConfig::MAX_SAMPLES];
-    let n = room % (SavDataSetConfig::MAX_SAMPLES + 1);
+pub fn by_sets(frame: &[u8], room: usize, store: &DataSets) -> Reading {
+    let mut arrays = Arrays::LENT;
+    let n = room.min(SavDataSetConfig::MAX_SAMPLES);
     let got = read_by_sets::read_by_sets(
-        first(&frame.octets, frame.size),
+        frame,
         store,
-        &mut counts[..n],
-        &mut words[..n],
+        &mut arrays.counts[..n],
+        &mut arrays.words[..n],
     );
-    let read = got.read;
-    let set = got.set;
-    again(read, set, counts, words)
+    let mut set = NO_SET;
+    if let Ok(by) = got {
+        set = by.set;
+        write_again(by.read, set.channels, &mut arrays);
+    }
+    Reading {
+        answer: got.map(|_| ()),
+        set: SetBits::from(set),
+        arrays,
+    }
 }
 
 // A frame by ordinary reading with a set: where it is accepted it is the frame that is written again.
-pub fn ordinary(frame: Frame, room: usize, set: SavDataSetConfig) -> Reading {
-    let mut counts = [77; SavDataSetConfig::MAX_SAMPLES];
-    let mut words = [77; SavDataSetConfig::MAX_SAMPLES];
-    let n = room % (SavDataSetConfig::MAX_SAMPLES + 1);
+pub fn ordinary(frame: &Frame, room: usize, set: SavDataSetConfig) -> Reading {
+    let mut arrays = Arrays::LENT;
+    let n = room.min(SavDataSetConfig::MAX_SAMPLES);
     let read = decode_smv::read_frame(
-        first(&frame.octets, frame.size),
+        frame.kept(),
         set.channels,
-        &mut counts[..n],
-        &mut words[..n],
+        &mut arrays.counts[..n],
+        &mut arrays.words[..n],
     );
-    let header = read.header;
-    let mut numbers = [77; layout::MAX_NUMBERS];
-    numbers[0] = (frame.size % 65536) as u32;
-    numbers[1] = header.length as u32;
-    let octets = frame.octets;
-    let scale_factor = set.scale_factor;
+    arrays.numbers[0] = (frame.size % 65536) as u32;
+    if let Ok(read) = read {
+        arrays.numbers[1] = u32::from(read.header.length);
+    }
+    arrays.octets = frame.octets;
     Reading {
-        number: read.number,
-        place: read.place,
-        channels: set.channels,
-        scale_factor,
-        numbers,
-        octets,
-        counts,
-        words,
+        answer: read.map(|_| ()),
+        set: SetBits::from(set),
+        arrays,
     }
 }

@@ -1,99 +1,93 @@
-// What is counted, and how it is printed.
-use crate::{Seen, Tally, frames, history};
-use rt_services::Refusal;
-use std::io;
+// What is counted.
+use crate::frames::FRAMES;
+use crate::readings::Reading;
+use rt_services::Reason;
+use std::alloc::{AllocError, Global};
 
-// Places among the counts, in the order of the lines. All additions; then those taken, refused 8 and
-// 14, and answered otherwise than expected, by either call.
-pub const ADDED: usize = 1;
+// One more, on a condition.
+pub fn more(count: &mut u32, is: bool) {
+    *count = count.saturating_add(u32::from(is));
+}
 
-pub const ADDED_OTHERWISE: usize = 4;
+// How additions were answered: taken, refused 8, refused 14; and otherwise than expected.
+#[derive(Clone, Copy, Default)]
+pub struct Additions {
+    pub taken: u32,
+    pub too_many_channels: u32,
+    pub not_added: u32,
+    pub unexpected: u32,
+}
 
-// Sets that were looked for and found, and those answered otherwise than expected.
-pub const FOUND: usize = 5;
-
-pub const FOUND_OTHERWISE: usize = 6;
-
-// Four for the readings of each call: accepted, refused 15, refused 16 and refused otherwise.
-const READINGS: usize = 7;
-
-const CHANGED: usize = 15;
-
-const OTHERWISE: usize = 16;
-
-pub const COUNTS: usize = 17;
-
-// The calls: into records (0) and into flat arrays (1).
-pub const CALLS: usize = 2;
-
-pub fn empty() -> Tally {
-    let mut counts = [0; COUNTS];
-    counts[0] = history::ADDITIONS as u32;
-    Tally {
-        counts,
-        sums: [0; CALLS * frames::FRAMES],
+impl Additions {
+    // One more, refused for a reason or taken.
+    pub fn count(&mut self, refusal: Option<Reason>, is_right: bool) {
+        more(&mut self.taken, refusal.is_none());
+        more(
+            &mut self.too_many_channels,
+            refusal == Some(Reason::TooManyChannels),
+        );
+        more(&mut self.not_added, refusal == Some(Reason::SetNotAdded));
+        more(&mut self.unexpected, !is_right);
     }
 }
 
-// One more at a place, on a condition.
-pub fn more(tally: Tally, place: usize, is: bool) -> Tally {
-    let mut t = tally;
-    if is && place < COUNTS {
-        t.counts[place] = std::num::wrapping_add_u32(t.counts[place], 1);
-    }
-    t
+// Sets that were looked for and found, and searches that were answered otherwise than expected.
+#[derive(Clone, Copy, Default)]
+pub struct Searches {
+    pub found: u32,
+    pub unexpected: u32,
 }
 
-// The place of an answer among four: accepted, refused with one of two numbers, and refused otherwise.
-pub fn place_of(number: usize, one: usize, other: usize) -> usize {
-    if number == 0 {
-        return 0;
-    }
-    if number == one {
-        return 1;
-    }
-    if number == other {
-        return 2;
-    }
-    3
+// How the readings of one call were answered: accepted, refused 15, refused 16, refused otherwise; those
+// that changed, and those that were not expected. For each frame the first answer that wasn't 15.
+#[derive(Drop)]
+pub struct Readings {
+    pub accepted: u32,
+    pub no_set: u32,
+    pub other_conf_rev: u32,
+    pub refused: u32,
+    pub changed: u32,
+    pub unexpected: u32,
+    firsts: Vec<Option<Reading>>,
 }
 
-// Counts one reading by a call. Its answer changed where it differs from the first that wasn't 15.
-pub fn reading(tally: Tally, call: usize, f: usize, seen: Seen) -> Tally {
-    let mut t = tally;
-    let i = call % CALLS * frames::FRAMES + f % frames::FRAMES;
-    let before = t.sums[i];
-    let no_set = seen.number == Refusal::NO_SET;
-    if before == 0 && !no_set {
-        t.sums[i] = seen.sum;
+impl Readings {
+    pub fn new(alloc: Global) -> Result<Readings, AllocError> {
+        Ok(Readings {
+            accepted: 0,
+            no_set: 0,
+            other_conf_rev: 0,
+            refused: 0,
+            changed: 0,
+            unexpected: 0,
+            firsts: vec![in alloc; None; FRAMES]?,
+        })
     }
-    let place = place_of(seen.number, Refusal::NO_SET, Refusal::OTHER_CONF_REV) % 4;
-    t = more(t, READINGS + call % CALLS * 4 + place, true);
-    t = more(t, CHANGED, before != 0 && (no_set || before != seen.sum));
-    more(t, OTHERWISE, !seen.right)
-}
 
-const REPORT_LENGTH: usize = 366;
-
-// The lines, each with a count in place of #.
-const REPORT: [u8; REPORT_LENGTH] =
-    *b"additions: #\ntaken: #\nrefused 8: #\nrefused 14: #\nanswered otherwise than expected: #\nsets found: #\nsets found otherwise than expected: #\nreadings into records\naccepted: #\nrefused 15: #\nrefused 16: #\nrefused otherwise: #\nreadings into flat arrays\naccepted: #\nrefused 15: #\nrefused 16: #\nrefused otherwise: #\nanswers that changed: #\nanswers otherwise than expected: #\n";
-
-pub fn print(rt: &impl Print, tally: Tally) -> io::Result<()> {
-    let counts = tally.counts;
-    let text = REPORT;
-    let mut line = 0;
-    let mut i = 0;
-    while i < REPORT_LENGTH {
-        if text[i] == b'#' {
-            if line < COUNTS {
-                rt.print(counts[line])?;
-                line += 1;
-            }
-        } else {
-            rt.write_all(&text[i..i + 1])?;
+    // One more of frame f.
+    pub fn count(&mut self, f: usize, got: Reading, expected: Reading) {
+        match got.refusal() {
+            None => more(&mut self.accepted, true),
+            Some(Reason::NoSet) => more(&mut self.no_set, true),
+            Some(Reason::OtherConfRev) => more(&mut self.other_conf_rev, true),
+            Some(_) => more(&mut self.refused, true),
         }
-        i += 1;
+        more(&mut self.unexpected, got != expected);
+        self.hold(f, got);
     }
-    Ok(())
+
+    // Holds an answer to frame f against the frame's first that wasn't 15, or keeps it as that.
+    fn hold(&mut self, f: usize, got: Reading) {
+        let Some(first) = self.firsts.get_mut(f) else {
+            return;
+        };
+        match first {
+            Some(first) => more(&mut self.changed, *first != got),
+            None => {
+                if got.refusal() != Some(Reason::NoSet) {
+                    *first = Some(got);
+                }
+            }
+        }
+    }
 }

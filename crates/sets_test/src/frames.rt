@@ -1,55 +1,108 @@
 // The frames: thirteen kinds for each row, of the row's confRev and channels.
 use crate::draw::{below, draw};
 use crate::{Frame, history};
-use rt_services::{
-    EthernetHeader, OptionalU16, Presence, SavAsdu, SavDataSetConfig, SavPdu, Vlan, Written,
-};
+use decode_smv::samples::signed;
+use rt_services::{EthernetHeader, Presence, SavAsdu, SavDataSetConfig, SavPdu, Vlan};
+use std::array;
 
-pub const KINDS: usize = 13;
-
-pub const FRAMES: usize = history::ROWS * KINDS;
-
-// The kinds. Of one confRev: one ASDU (kind 0), two (1), and three read into short arrays (2).
-// Of two confRevs: three ASDUs of which the second (3) or the third (4) has the other one; two ASDUs
-// without the last octet (5); and two read into short arrays (6).
-// Cut: two ASDUs without the last octet (7); one that ends after the confRev (8); one that ends before
-// the confRev's last octet (9); and one that ends anywhere before that (10).
-// Changed: a length octet 80 after 60 (11), and noASDU 0 (12).
-pub const THREE_SHORT: usize = 2;
-
-pub const DIFFERS_SHORT: usize = 6;
-
-const AFTER_REVISION: usize = 8;
-
-const IN_REVISION: usize = 9;
-
-const BEFORE_REVISION: usize = 10;
-
-const BAD_LENGTH: usize = 11;
-
-const NO_ASDU: usize = 12;
-
-// By kind: how many ASDUs, which of them has the other confRev (0: none), and how many octets are cut
-// off the end, besides what follows the confRev in kinds 8 and 9.
-const ASDUS: [u16; KINDS] = [1, 2, 3, 3, 3, 2, 2, 2, 1, 1, 1, 1, 1];
-
-const OTHER: [usize; KINDS] = [0, 0, 0, 1, 2, 1, 1, 0, 0, 0, 0, 0, 0];
-
-const CUT: [usize; KINDS] = [0, 0, 0, 0, 0, 1, 0, 1, 0, 1, 0, 0, 0];
-
-// The first n octets, or all where there are fewer.
-pub fn first(s: &[u8], n: usize) -> &[u8] {
-    if n <= s.len() {
-        return &s[..n];
-    }
-    s
+// What is done to a frame after it is written.
+#[derive(Clone, Copy, PartialEq, Eq)]
+pub enum Change {
+    Nothing,
+    // The last octet is cut off.
+    LastOctet,
+    // The frame ends after the confRev; before the confRev's last octet; or anywhere before that.
+    AfterRevision,
+    InRevision,
+    BeforeRevision,
+    // A length octet 80 after 60.
+    BadLength,
+    // noASDU 0.
+    NoAsdu,
 }
 
+// A kind of frames: how many ASDUs, which of them has another confRev than the first, what is done to
+// it, and whether it is read into short arrays.
+#[derive(Clone, Copy)]
+pub struct Kind {
+    pub asdus: u16,
+    pub other: Option<usize>,
+    pub change: Change,
+    pub is_short: bool,
+}
+
+// A frame of one ASDU, as it is written.
+const WHOLE: Kind = Kind {
+    asdus: 1,
+    other: None,
+    change: Change::Nothing,
+    is_short: false,
+};
+
+pub const KINDS: [Kind; 13] = [
+    WHOLE,
+    Kind { asdus: 2, ..WHOLE },
+    Kind {
+        asdus: 3,
+        is_short: true,
+        ..WHOLE
+    },
+    Kind {
+        asdus: 3,
+        other: Some(1),
+        ..WHOLE
+    },
+    Kind {
+        asdus: 3,
+        other: Some(2),
+        ..WHOLE
+    },
+    Kind {
+        asdus: 2,
+        other: Some(1),
+        change: Change::LastOctet,
+        ..WHOLE
+    },
+    Kind {
+        asdus: 2,
+        other: Some(1),
+        is_short: true,
+        ..WHOLE
+    },
+    Kind {
+        asdus: 2,
+        change: Change::LastOctet,
+        ..WHOLE
+    },
+    Kind {
+        change: Change::AfterRevision,
+        ..WHOLE
+    },
+    Kind {
+        change: Change::InRevision,
+        ..WHOLE
+    },
+    Kind {
+        change: Change::BeforeRevision,
+        ..WHOLE
+    },
+    Kind {
+        change: Change::BadLength,
+        ..WHOLE
+    },
+    Kind {
+        change: Change::NoAsdu,
+        ..WHOLE
+    },
+];
+
+pub const FRAMES: usize = history::ROWS * KINDS.len();
+
 fn header(k: u32) -> EthernetHeader {
-    let mut vlan = Vlan::Untagged;
-    if below(k, 10, 2) == 1 {
-        vlan = Vlan::Tagged(0x8100, 0x6005);
-    }
+    let vlan = match below(k, 10, 2) {
+        0 => Vlan::Untagged,
+        _ => Vlan::Tagged(0x8100, 0x6005),
+    };
     EthernetHeader {
         dst_addr: [0x01, 0x0c, 0xcd, 0x04, 0x00, 0x01],
         src_addr: [0, 0, 0, 0, 0, 2],
@@ -68,11 +121,11 @@ fn presence(k: u32, place: u32, plain: bool) -> Presence {
     Presence::Present
 }
 
-fn optional(k: u32, place: u32, plain: bool) -> OptionalU16 {
+fn optional(k: u32, place: u32, plain: bool) -> Option<u16> {
     if plain || below(k, place, 2) == 0 {
-        return OptionalU16::Absent;
+        return None;
     }
-    OptionalU16::Present(0x1234)
+    Some(0x1234)
 }
 
 // An ASDU of stream k. A plain one has no optional field after the confRev, so that what follows is of
@@ -107,95 +160,75 @@ fn other_row(k: u32, row: usize) -> usize {
     row - 1
 }
 
-fn pdu(f: usize, k: u32) -> SavPdu {
-    let kind = f % KINDS;
-    let plain = kind == AFTER_REVISION || kind == IN_REVISION;
-    let row = f / KINDS;
-    let a = asdu(k, history::revision_of(row), plain);
-    let mut sav_asdu = [a; SavPdu::MAX_ASDUS];
-    let other = OTHER[kind] % SavPdu::MAX_ASDUS;
-    if 0 < other {
-        sav_asdu[other] = asdu(k, history::revision_of(other_row(k, row)), plain);
+fn pdu(k: u32, row: usize, kind: Kind) -> SavPdu {
+    let plain = kind.change == Change::AfterRevision || kind.change == Change::InRevision;
+    let first = asdu(k, history::revision_of(row), plain);
+    let mut sav_asdu = [first; SavPdu::MAX_ASDUS];
+    if let Some(i) = kind.other {
+        sav_asdu[i % SavPdu::MAX_ASDUS] = asdu(k, history::revision_of(other_row(k, row)), plain);
     }
     SavPdu {
         sav_asdu,
         security_octets: [0x5e; SavPdu::MAX_SECURITY],
         security_len: below(k, 30, 9) as usize,
-        no_asdu: ASDUS[kind],
+        no_asdu: kind.asdus,
         sim: below(k, 31, 2) == 1,
         security: presence(k, 32, false),
     }
 }
 
 // The whole frame in the shortest form; of no octets where the writer refuses it.
-fn whole(f: usize, k: u32) -> Frame {
-    let mut counts = [0; SavDataSetConfig::MAX_SAMPLES];
-    let mut words = [0; SavDataSetConfig::MAX_SAMPLES];
-    let mut i = 0;
-    while i < SavDataSetConfig::MAX_SAMPLES {
-        let count = decode_smv::samples::signed(draw(k, 100 + i as u32));
-        counts[i] = count;
-        words[i] = draw(k, 400 + i as u32) % SavAsdu::QUALITY_LIMIT;
-        i += 1;
-    }
+fn whole(k: u32, row: usize, kind: Kind) -> Frame {
+    let counts: [i32; SavDataSetConfig::MAX_SAMPLES] = array::from_fn(|i| signed(draw(
+        k,
+        100 + i as u32,
+    )));
+    let words: [u32; SavDataSetConfig::MAX_SAMPLES] = array::from_fn(|i| draw(k, 400 + i as u32)
+        % SavAsdu::QUALITY_LIMIT);
     let mut octets = [77; layout::MAX_OCTETS];
     let written = encode_smv::encode_smv(
         header(k),
-        pdu(f, k),
-        history::channels_of(f / KINDS),
+        pdu(k, row, kind),
+        history::channels_of(row),
         false,
         &counts,
         &words,
         &mut octets,
     );
-    let mut size = 0;
-    if let Written::At(n) = written {
-        size = n;
+    Frame {
+        octets,
+        size: written.unwrap_or(0),
     }
-    Frame { octets, size }
 }
 
 // How many octets of a frame of n are kept. What follows the confRev in a plain frame of one ASDU:
 // smpSynch of one octet, 87, its length, the samples.
-fn kept(f: usize, k: u32, n: usize) -> usize {
-    let kind = f % KINDS;
-    if kind == BEFORE_REVISION {
-        return below(k, 33, 39) as usize;
+fn kept(k: u32, row: usize, change: Change, n: usize) -> usize {
+    let channels = history::channels_of(row);
+    let after_revision = 5 + channels / 16 + channels * 8;
+    match change {
+        Change::Nothing | Change::BadLength | Change::NoAsdu => n,
+        Change::LastOctet => n.saturating_sub(1),
+        Change::AfterRevision => n.saturating_sub(after_revision),
+        Change::InRevision => n.saturating_sub(after_revision + 1),
+        Change::BeforeRevision => below(k, 33, 39) as usize,
     }
-    let mut cut = CUT[kind] % 2;
-    if kind == AFTER_REVISION || kind == IN_REVISION {
-        let channels = history::channels_of(f / KINDS) % 25;
-        cut = cut + 5 + channels / 16 + channels * 8;
-    }
-    if n < cut {
-        return 0;
-    }
-    n - cut
 }
 
-// Frame f: changed and cut as its kind is.
-pub fn write(f: usize) -> Frame {
+// Frame f, which is of a row: changed as its kind is, with 77 after its end.
+pub fn write(f: usize, row: usize, kind: Kind) -> Frame {
     let k = (1000 + f % 1000) as u32;
-    let mut frame = whole(f, k);
-    let length = 23 + below(k, 10, 2) as usize % 2 * 4;
-    if f % KINDS == BAD_LENGTH {
+    let mut frame = whole(k, row, kind);
+    let length = 23 + below(k, 10, 2) as usize * 4;
+    if kind.change == Change::BadLength {
         frame.octets[length] = 0x80;
     }
-    if f % KINDS == NO_ASDU {
-        let mut at = length + 3;
-        let octet = frame.octets[length];
-        if 128 <= octet {
-            at = at + (octet % 128) as usize;
-        }
-        frame.octets[at % layout::MAX_OCTETS] = 0;
+    if kind.change == Change::NoAsdu {
+        let more = frame.octets[length].saturating_sub(128);
+        frame.octets[length + 3 + more as usize] = 0;
     }
-    frame.size = kept(f, k, frame.size);
-    let mut i = 0;
-    while i < layout::MAX_OCTETS {
-        if frame.size <= i {
-            frame.octets[i] = 77;
-        }
-        i += 1;
-    }
+    let size = kept(k, row, kind.change, frame.size).min(layout::MAX_OCTETS);
+    frame.octets[size..].fill(77);
+    frame.size = size;
     frame
 }

@@ -11,123 +11,137 @@ mod frames;
 mod history;
 mod readings;
 
-use rt_services::{Refusal, SavDataSetConfig};
+use crate::counts::{Additions, Readings, Searches, more};
+use crate::frames::{KINDS, Kind};
+use rt_services::SavDataSetConfig;
 use set_store::DataSets;
+use std::alloc::{AllocError, Global};
 use std::io;
 
-// The octets of a frame, with 77 after them, and how many there are.
+// The octets of a frame, with 77 after them, and how many there are. The writer is lent a buffer of
+// fixed length, which is compared whole.
 #[derive(Clone, Copy)]
 pub struct Frame {
     pub octets: [u8; layout::MAX_OCTETS],
     pub size: usize,
 }
 
-// Number and place of a refusal, 0 and 0 where there is none; the set handed back; the arrays. Each
-// array is lent with 77 in every element.
-#[derive(Clone, Copy)]
-pub struct Reading {
-    pub number: usize,
-    pub place: usize,
-    pub channels: usize,
-    pub scale_factor: [f32; SavDataSetConfig::MAX_CHANNELS],
-    pub numbers: [u32; layout::MAX_NUMBERS],
-    pub octets: [u8; layout::MAX_OCTETS],
-    pub counts: [i32; SavDataSetConfig::MAX_SAMPLES],
-    pub words: [u32; SavDataSetConfig::MAX_SAMPLES],
-}
-
-// The number of a reading's refusal or 0; whether all is as expected; the checksum, which isn't 0.
-#[derive(Clone, Copy)]
-pub struct Seen {
-    pub number: usize,
-    pub right: bool,
-    pub sum: u64,
-}
-
-// The counts; and for each call the checksum of each frame's first answer that wasn't 15, or 0.
-#[derive(Clone, Copy)]
-pub struct Tally {
-    pub counts: [u32; counts::COUNTS],
-    pub sums: [u64; counts::CALLS * frames::FRAMES],
-}
-
-// The store after an addition, how many sets it should hold, the number of the refusal or 0, and
-// whether both calls answer as expected and leave the same store.
-#[derive(Clone, Copy)]
-pub struct Step {
-    pub store: DataSets,
-    pub held: usize,
-    pub number: usize,
-    pub right: bool,
-}
-
-// Whether a set is found, and whether that is as expected.
-#[derive(Clone, Copy)]
-pub struct Search {
-    pub found: bool,
-    pub right: bool,
-}
-
-// Reads frame f into records and into flat arrays. Each answer is held to ordinary reading with the set
-// of the frame's confRev, and to the frame's first answer that wasn't 15.
-fn read(tally: Tally, f: usize, store: DataSets, held: usize) -> Tally {
-    let kind = f % frames::KINDS;
-    let mut room = SavDataSetConfig::MAX_SAMPLES;
-    if kind == frames::THREE_SHORT || kind == frames::DIFFERS_SHORT {
-        room = 30;
+impl Frame {
+    // The octets without those after the end.
+    pub fn kept(&self) -> &[u8] {
+        &self.octets[..self.size.min(layout::MAX_OCTETS)]
     }
-    let frame = frames::write(f);
-    let set = history::set_of(f / frames::KINDS);
-    let got = by_records::by_sets(frame, room, store);
-    let ordinary = by_records::ordinary(frame, room, set);
-    let expected = readings::expected(f, held, ordinary, 0, 0.0);
-    let t = counts::reading(tally, 0, f, readings::judge(got, expected));
-    let got = by_flat::by_sets(frame, room, store);
-    let ordinary = by_flat::ordinary(frame, room, set);
-    let expected = readings::expected(
-        f,
-        held,
-        ordinary,
-        by_flat::LENT_CHANNELS,
-        by_flat::LENT_FACTOR,
-    );
-    counts::reading(t, 1, f, readings::judge(got, expected))
 }
 
-// Looks for every row's set and reads every frame, where so many rows are held.
-fn read_all(tally: Tally, store: DataSets, held: usize) -> Tally {
-    let mut t = tally;
-    let mut f = 0;
-    while f < frames::FRAMES {
-        if f % frames::KINDS == 0 {
-            let search = additions::find(f / frames::KINDS, store, held);
-            t = counts::more(t, counts::FOUND, search.found);
-            t = counts::more(t, counts::FOUND_OTHERWISE, !search.right);
+// All that is counted.
+#[derive(Drop)]
+struct Tally {
+    additions: Additions,
+    searches: Searches,
+    by_records: Readings,
+    by_flat: Readings,
+}
+
+impl Tally {
+    fn new(alloc: Global) -> Result<Tally, AllocError> {
+        Ok(Tally {
+            additions: Additions::default(),
+            searches: Searches::default(),
+            by_records: Readings::new(alloc)?,
+            by_flat: Readings::new(alloc)?,
+        })
+    }
+
+    // Looks for a row's set in a store that holds so many rows.
+    fn find(&mut self, row: usize, store: DataSets, held: usize) {
+        let found = additions::find(row, &store);
+        more(&mut self.searches.found, found.is_some());
+        more(
+            &mut self.searches.unexpected,
+            !additions::is_right(found, row, held),
+        );
+    }
+
+    // Reads frame f, of a row and kind, into records and into flat arrays. Each answer is held to ordinary
+    // reading with the set of the row, and to the frame's first answer that wasn't 15.
+    fn read(&mut self, f: usize, row: usize, kind: Kind, store: DataSets, held: usize) {
+        let room = if kind.is_short {
+            30
+        } else {
+            SavDataSetConfig::MAX_SAMPLES
+        };
+        let frame = frames::write(f, row, kind);
+        let set = history::set_of(row);
+        let got = by_records::by_sets(frame.kept(), room, &store);
+        let ordinary = by_records::ordinary(&frame, room, set);
+        let expected = readings::expected(kind, row < held, ordinary, by_records::NO_SET);
+        self.by_records.count(f, got, expected);
+        let got = by_flat::by_sets(frame.kept(), room, &store);
+        let ordinary = by_flat::ordinary(frame.kept(), room, set);
+        let expected = readings::expected(kind, row < held, ordinary, by_flat::LENT_SET);
+        self.by_flat.count(f, got, expected);
+    }
+
+    // Looks for every row's set and reads every frame, where so many rows are held.
+    fn read_all(&mut self, store: DataSets, held: usize) {
+        for row in 0..history::ROWS {
+            self.find(row, store, held);
+            for (i, kind) in KINDS.iter().enumerate() {
+                self.read(row * KINDS.len() + i, row, *kind, store, held);
+            }
         }
-        t = read(t, f, store, held);
-        f += 1;
     }
-    t
+
+    fn print(&self, rt: &impl Print) -> io::Result<()> {
+        self.print_additions(rt)?;
+        println!(rt; "readings into records")?;
+        print_readings(rt, &self.by_records)?;
+        println!(rt; "readings into flat arrays")?;
+        print_readings(rt, &self.by_flat)?;
+        let changed = self.by_records.changed.saturating_add(self.by_flat.changed);
+        println!(rt; "answers that changed: {changed}")?;
+        let unexpected = self
+            .by_records
+            .unexpected
+            .saturating_add(self.by_flat.unexpected);
+        println!(rt; "answers otherwise than expected: {unexpected}")
+    }
+
+    fn print_additions(&self, rt: &impl Print) -> io::Result<()> {
+        let additions = history::ADDITIONS;
+        println!(rt; "additions: {additions}")?;
+        println!(rt; "taken: {}", self.additions.taken)?;
+        println!(rt; "refused 8: {}", self.additions.too_many_channels)?;
+        println!(rt; "refused 14: {}", self.additions.not_added)?;
+        println!(rt;
+            "answered otherwise than expected: {}",
+            self.additions.unexpected
+        )?;
+        println!(rt; "sets found: {}", self.searches.found)?;
+        println!(rt;
+            "sets found otherwise than expected: {}",
+            self.searches.unexpected
+        )
+    }
+}
+
+fn print_readings(rt: &impl Print, readings: &Readings) -> io::Result<()> {
+    println!(rt; "accepted: {}", readings.accepted)?;
+    println!(rt; "refused 15: {}", readings.no_set)?;
+    println!(rt; "refused 16: {}", readings.other_conf_rev)?;
+    println!(rt; "refused otherwise: {}", readings.refused)
 }
 
 fn main(rt: HostRuntime) -> io::Result<()> {
-    let mut tally = counts::empty();
+    let mut tally = Tally::new(rt.alloc())?;
     let mut store = DataSets::empty();
     let mut held = 0;
-    let mut k = 0;
-    while k < history::ADDITIONS {
+    for k in 0..history::ADDITIONS {
         let step = additions::add(k, store, held);
-        let place = counts::place_of(
-            step.number,
-            Refusal::TOO_MANY_CHANNELS,
-            Refusal::SET_NOT_ADDED,
-        );
-        tally = counts::more(tally, counts::ADDED + place % 4, true);
-        tally = counts::more(tally, counts::ADDED_OTHERWISE, !step.right);
+        tally.additions.count(step.refusal, step.is_right);
         store = step.store;
         held = step.held;
-        tally = read_all(tally, store, held);
-        k += 1;
+        tally.read_all(store, held);
     }
-    counts::print(&rt, tally)
+    tally.print(&rt)
 }

@@ -1,4 +1,2 @@
 pub mod Cases
 pub mod Again
-pub mod Record
-pub mod Strict

@@ -2,31 +2,16 @@
 // frame's sizes, counts and quality words, or its refusal.
 #![tactic(auto)]
 
-ghost use Rattle.std.specs.Io.{ReadsAtMost};
-
 use std::io;
 use std::io::Read;
 
-// Reads until buf is full or the input ends, and answers how many octets it put at the start of buf.
-fn read_full(reader: &mut impl Read, buf: &mut [u8]) -> io::Result<usize>
-    ensures { ReadsAtMost result buf.new }
-{
-    let mut done = 0;
-    while done < buf.len() {
-        let n = reader.read(&mut buf[done..])?;
-        if n == 0 {
-            break;
-        }
-        done += n;
-    }
-    Ok(done)
-}
+// One octet more than the longest input that is read, so that a longer one is told apart.
+const MOST: u64 = svread_text::MAX_INPUT as u64 + 1;
 
 fn main(rt: HostRuntime) -> io::Result<()> {
-    // One octet more than the longest input that is read, so that a longer one is told apart.
-    let mut input = [0; svread_text::MAX_INPUT + 1];
-    let n = read_full(&mut rt.stdin(), &mut input)?;
+    let mut input = Vec::new(rt.alloc());
+    rt.stdin().take(MOST).read_to_end(&mut input)?;
     let mut text = [0; svread_text::MAX_TEXT];
-    let size = svread_text::svread_text(&input[..n], &mut text);
+    let size = svread_text::svread_text(&input, &mut text);
     rt.write_all(&text[..size])
 }

@@ -36,10 +36,10 @@ fn show(rt: &impl Print, input: &[u8]) -> io::Result<()> {
 // Inputs of no octet, of one, of the most that are read, and of one more.
 fn lengths(rt: &impl Print) -> io::Result<()> {
     let zeros = [0; svread_text::MAX_INPUT + 1];
-    show(rt, &zeros[..0])?;
-    show(rt, &zeros[..1])?;
-    show(rt, &zeros[..2049])?;
-    show(rt, &zeros)
+    for input in [&zeros[..0], &zeros[..1], &zeros[..2049], &zeros[..]] {
+        show(rt, input)?;
+    }
+    Ok(())
 }
 
 // The frame with the channel number n, and with another octet at a place of the frame.
@@ -53,20 +53,18 @@ fn changed(rt: &impl Print, n: u8, place: usize, octet: u8) -> io::Result<()>
 }
 
 fn channels(rt: &impl Print) -> io::Result<()> {
-    changed(rt, 0, 0, 0x01)?;
-    changed(rt, 1, 0, 0x01)?;
-    changed(rt, 24, 0, 0x01)?;
-    changed(rt, 25, 0, 0x01)?;
-    changed(rt, 255, 0, 0x01)
+    for n in [0, 1, 24, 25, 255] {
+        changed(rt, n, 0, 0x01)?;
+    }
+    Ok(())
 }
 
 // 1: in the header, in a tag, in content, in the samples.
 fn cut_short(rt: &impl Print) -> io::Result<()> {
-    let input = FRAME;
-    show(rt, &input[..18])?;
-    show(rt, &input[..24])?;
-    show(rt, &input[..34])?;
-    show(rt, &input[..53])
+    for input in [&FRAME[..18], &FRAME[..24], &FRAME[..34], &FRAME[..53]] {
+        show(rt, input)?;
+    }
+    Ok(())
 }
 
 // 2, at the tags 60 and 87; 3, at smpCnt; 4, at noASDU.
@@ -78,60 +76,40 @@ fn refused(rt: &impl Print) -> io::Result<()> {
 }
 
 // The frame with another count.
-fn counted(rt: &impl Print, octets: [u8; 4]) -> io::Result<()> {
+fn counted(rt: &impl Print, count: i32) -> io::Result<()> {
     let mut input = FRAME;
-    input[46] = octets[0];
-    input[47] = octets[1];
-    input[48] = octets[2];
-    input[49] = octets[3];
+    input[46..50].copy_from_slice(&count.to_be_bytes());
     show(rt, &input)
 }
 
 // Counts of 0, -1, the most and the least; a quality word whose upper bits are cleared.
 fn samples(rt: &impl Print) -> io::Result<()> {
-    counted(rt, [0x00, 0x00, 0x00, 0x00])?;
-    counted(rt, [0xff, 0xff, 0xff, 0xff])?;
-    counted(rt, [0x7f, 0xff, 0xff, 0xff])?;
-    counted(rt, [0x80, 0x00, 0x00, 0x00])?;
+    for count in [0, -1, i32::MAX, i32::MIN] {
+        counted(rt, count)?;
+    }
     changed(rt, 1, 51, 0xff)
 }
 
 // Octet o of sample k.
-fn sample_octet(k: usize, o: usize) -> u8
+fn sample_octet(k: u32, o: u32) -> u8
     requires { (k < 192) × (o < 8) }
 {
     ((k * 37 + o * 128 + o / 2 * 11 + 0x89) % 256) as u8
 }
 
-// Octet i of the largest frame with the channel number n in front.
-fn octet(n: u8, i: usize) -> u8
-    requires { i < 1714 }
-{
-    if i == 0 {
-        return n;
-    }
-    if i < 23 {
-        return 0;
-    }
-    if i < 34 {
-        return OPENING[i - 23];
-    }
-    let asdu = (i - 34) / 210;
-    let j = (i - 34) % 210;
-    if j < 18 {
-        return ASDU[j];
-    }
-    sample_octet(asdu * 24 + (j - 18) / 8, (j - 18) % 8)
-}
-
 // Eight ASDUs of 24 channels. Without channels its first sample is read as a gmIdentity of 9
 // octets: 5.
-fn largest(rt: &impl Print, n: u8) -> io::Result<()> {
-    let mut input = [0; 1714];
-    let mut i = 0;
-    while i < 1714 {
-        input[i] = octet(n, i);
-        i += 1;
+fn largest(rt: &(impl Print + AllocGlobal), n: u8) -> io::Result<()> {
+    let mut input = Vec::from_slice(rt.alloc(), &[n])?;
+    input.extend_from_slice(&[0; 22])?;
+    input.extend_from_slice(&OPENING)?;
+    for asdu in 0..8 {
+        input.extend_from_slice(&ASDU)?;
+        for channel in 0..24 {
+            for o in 0..8 {
+                input.push(sample_octet(asdu * 24 + channel, o))?;
+            }
+        }
     }
     show(rt, &input)
 }

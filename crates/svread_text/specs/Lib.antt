@@ -1,3 +1,1 @@
 pub mod Text
-pub mod Cases
-pub mod Told

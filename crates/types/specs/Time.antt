@@ -1,12 +1,10 @@
 -- Time quality and timestamp: IEC 61850-7-2, tables "TimeQuality" and "TimeStamp".
-use Rattle.std.specs.Prelude.{cond, List, [], ◌∷◌, ◌++◌, ℕ, ◌+◌, ◌*◌, ◌/◌, ◌%◌, ◌^◌, get_or, leb}
+use Rattle.std.specs.Prelude.{cond, List, [], ◌∷◌, ◌++◌, ℕ, ◌+◌, ◌*◌, ◌/◌, ◌%◌, ◌^◌, get_or, leb, Option, None, Some}
 use Rattle.types.specs.Bits.{bit, weight}
 use Rattle.definition.specs.Octets.{octets}
 use Rattle.definition.specs.Read.{be_at}
 use Rattle.types.specs.declared.types.TimeQuality.{TimeQuality}
 use Rattle.types.specs.declared.types.Timestamp.{Timestamp}
-use Rattle.types.specs.declared.types.AccuracyBits.{AccuracyBits}
-use Rattle.types.specs.declared.types.AccuracyBits.TheVariants.{Bits, Absent}
 
 -- how many bits of a time accuracy, and of a fraction of a second, octets carry (IEC 61850-7-2)
 abbrev pub accuracy_size : ℕ
@@ -34,8 +32,8 @@ octet_of t =
     + weight 7 t.leap_second_known
 
 -- the original's `accuracy_bits`: 0 to 25 bits of accuracy; 26 to 30 are invalid and 31 is unspecified, so there is none
-abbrev pub accuracy_bits_of : TimeQuality → AccuracyBits
-accuracy_bits_of t = cond (leb t.time_accuracy 25) (Bits t.time_accuracy) Absent
+abbrev pub accuracy_bits_of : TimeQuality → Option ℕ
+accuracy_bits_of t = cond (leb t.time_accuracy 25) (Some t.time_accuracy) None
 
 -- the timestamp of eight octets: four of seconds, three of the fraction, one of time quality
 unfoldable pub timestamp_of : List ℕ → Timestamp

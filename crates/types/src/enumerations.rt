@@ -3,12 +3,12 @@ ghost use Rattle.std.specs.Prelude.{◌≡◌, ◌%◌, ◌<◌};
 ghost use Rattle.types.specs.Quality.{validity_of, validity_number, is_good};
 
 // Validity of a value, numbered 0 to 3 in this order.
-#[derive(Clone, Copy)]
+#[derive(Clone, Copy, PartialEq, Eq)]
 pub enum Validity {
-    Good,
-    Invalid,
-    Reserved,
-    Questionable,
+    Good = 0,
+    Invalid = 1,
+    Reserved = 2,
+    Questionable = 3,
 }
 
 impl Validity {
@@ -16,8 +16,7 @@ impl Validity {
     pub fn from_sv(word: u32) -> Validity
         ensures { result ≡ validity_of (word % 4) }
     {
-        let number = word % 4;
-        match number {
+        match word % 4 {
             0 => Validity::Good,
             1 => Validity::Invalid,
             2 => Validity::Reserved,
@@ -30,23 +29,13 @@ impl Validity {
         ensures value { result ≡ validity_number self }
         ensures upper_bound { result < 4 }
     {
-        match self {
-            Validity::Good => 0,
-            Validity::Invalid => 1,
-            Validity::Reserved => 2,
-            Validity::Questionable => 3,
-        }
+        self as u32
     }
 
     // Whether it is good.
     pub fn is_good(self) -> bool
         ensures { result ≡ is_good self }
     {
-        match self {
-            Validity::Good => true,
-            Validity::Invalid => false,
-            Validity::Reserved => false,
-            Validity::Questionable => false,
-        }
+        self == Validity::Good
     }
 }

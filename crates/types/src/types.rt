@@ -47,8 +47,7 @@ impl Quality {
     pub fn to_sv(self) -> u32
         ensures { result ≡ word_of self }
     {
-        let validity = self.validity;
-        validity.to_sv()
+        self.validity.to_sv()
             + flag(self.overflow, 4)
             + flag(self.out_of_range, 8)
             + flag(self.bad_reference, 16)
@@ -63,22 +62,11 @@ impl Quality {
     }
 
     // Whether validity is good and no flag is set.
+    #[tactic(auto, using(crate::specs::Laws::good_word))]
     pub fn is_good(self) -> bool
         ensures { result ≡ good self }
     {
-        let validity = self.validity;
-        validity.is_good()
-            & !self.overflow
-            & !self.out_of_range
-            & !self.bad_reference
-            & !self.oscillatory
-            & !self.failure
-            & !self.old_data
-            & !self.inconsistent
-            & !self.inaccurate
-            & !self.source_substituted
-            & !self.test
-            & !self.operator_blocked
+        self.to_sv() == 0
     }
 }
 
@@ -98,14 +86,6 @@ pub struct TimeQuality {
     pub clock_failure: bool,
     pub clock_not_synchronized: bool,
     pub time_accuracy: u8,
-}
-
-// How many bits of a fraction are accurate; Absent stands for the None of the original: 26 to 30 are invalid, and 31 is
-// unspecified.
-#[derive(Clone, Copy)]
-pub enum AccuracyBits {
-    Bits(u8),
-    Absent,
 }
 
 impl TimeQuality {
@@ -132,16 +112,13 @@ impl TimeQuality {
             + flag(self.leap_second_known, 128)) as u8
     }
 
-    // Time accuracy as a number of bits, 0 to 25.
-    pub fn accuracy_bits(self) -> AccuracyBits
+    // How many bits of a fraction are accurate, 0 to 25; none where 26 to 30 are invalid, and 31 is
+    // unspecified.
+    pub fn accuracy_bits(self) -> Option<u8>
         ensures { result ≡ accuracy_bits_of self }
     {
         let accuracy = self.time_accuracy;
-        if accuracy <= 25 {
-            AccuracyBits::Bits(accuracy)
-        } else {
-            AccuracyBits::Absent
-        }
+        if accuracy <= 25 { Some(accuracy) } else { None }
     }
 }
 
@@ -161,13 +138,10 @@ impl Timestamp {
     pub fn from_bytes(bytes: TimestampOctets) -> Timestamp
         ensures { result ≡ timestamp_of bytes }
     {
-        let seconds = from_be_bytes(bytes[0], bytes[1], bytes[2], bytes[3]);
-        let fraction = from_be_bytes(0, bytes[4], bytes[5], bytes[6]);
-        let quality = TimeQuality::from_byte(bytes[7]);
         Timestamp {
-            seconds,
-            fraction,
-            quality,
+            seconds: u32::from_be_bytes([bytes[0], bytes[1], bytes[2], bytes[3]]),
+            fraction: u32::from_be_bytes([0, bytes[4], bytes[5], bytes[6]]),
+            quality: TimeQuality::from_byte(bytes[7]),
         }
     }
 
@@ -175,20 +149,10 @@ impl Timestamp {
     pub fn to_bytes(self) -> TimestampOctets
         ensures { result ≡ timestamp_octets self }
     {
-        let s = self.seconds;
-        let f = self.fraction;
-        let quality = self.quality;
-        let last = quality.to_byte();
-        [
-            (s / 16777216 % 256) as u8,
-            (s / 65536 % 256) as u8,
-            (s / 256 % 256) as u8,
-            (s % 256) as u8,
-            (f / 65536 % 256) as u8,
-            (f / 256 % 256) as u8,
-            (f % 256) as u8,
-            last,
-        ]
+        let s = self.seconds.to_be_bytes();
+        let f = self.fraction.to_be_bytes();
+        let last = self.quality.to_byte();
+        [s[0], s[1], s[2], s[3], f[1], f[2], f[3], last]
     }
 
     // The fraction in nanoseconds.
@@ -197,13 +161,6 @@ impl Timestamp {
     {
         nanoseconds(self.fraction)
     }
-}
-
-// The number whose octets these are, highest first.
-fn from_be_bytes(a: u8, b: u8, c: u8, d: u8) -> u32
-    ensures { result ≡ ((a * 256 + b) * 256 + c) * 256 + d }
-{
-    ((a as u32 * 256 + b as u32) * 256 + c as u32) * 256 + d as u32
 }
 
 // Nanoseconds of a fraction in units of 2^-24, rounded down. Its low 24 bits count.

@@ -1,21 +1,21 @@
 -- What an ordinary reading that is accepted says: there are at most 24 channels and 8 ASDUs, and as many counts as its values are worked
 -- out of. And strict reading that accepts is such a reading, with the same results.
-use Rattle.std.specs.Prelude.{◌≡◌, refl, List, ℕ, ◌*◌, ◌≤◌, ◌<◌, ltb, ℤ, length, drop}
+use Rattle.std.specs.Prelude.{◌≡◌, refl, List, ℕ, ◌*◌, ◌≤◌, ◌<◌, ltb, ℤ, length, drop, Result, Ok}
 use Rattle.std.proofs.Common.{sym, ap, ◌∙◌, arith, ltb-false}
 use Rattle.definition.specs.Limits.{max_channels, max_asdus, no_room}
 use Rattle.definition.specs.Frame.{Form, Description, Octets}
-use Rattle.definition.specs.Answers.{Answer, accepted, refusal, read_frame, held_by, read_as, ordinary_read, strict_read, over, all_counts}
+use Rattle.definition.specs.Answers.{Answer, accepted, refusal, read_frame, held_by, ordinary_read, strict_read, over, all_counts}
 use Rattle.definition.proofs.Agreement.{passed, ordinary_agrees}
 use Rattle.definition.proofs.Sound.{ReadTyped, read_typed}
-use Rattle.definition.proofs.Numbers.{accepts_0, ordinary_number, read_answered}
+use Rattle.definition.proofs.Numbers.{accepts_0, read_answered}
 use Rattle.definition.specs.Over.{over_start, over_length}
 use Rattle.definition.proofs.Samples.{all_counts_lem}
 use Rattle.definition.specs.Flat.{numbers_for, octets_for, numbers_of, nth, flat_held, flat_read, flat_strict}
 use Rattle.definition.proofs.FlatBack.{length-numbers_of, count_held_lem}
 use Rattle.rt_services.specs.declared.SavRead.{SavRead}
-use Rattle.rt_services.specs.Told.{frame_read}
-use Rattle.strict_smv.specs.Record.{pdu_of_read}
-use Rattle.strict_smv.specs.Strict.{refused_number, saved_number}
+use Rattle.rt_services.specs.declared.Refusal.{Refusal}
+use Rattle.rt_services.specs.Told.{sav_read}
+use Rattle.rt_services.proofs.Reasons.{told_same}
 use Rattle.record_agreement.specs.Calls.{ReadsOrdinarily, ReadsStrictly}
 use Rattle.record_agreement.specs.Results.{saved_count, accepts}
 use Rattle.flat_agreement.specs.Calls.{ReadCall, StrictCall}
@@ -49,30 +49,29 @@ ordinary_accepted n b s cs x bytes e = go (read_frame n s) refl e
 
 -- ---- records
 
-pub accepted_reading : {n : ℕ} {s : List ℕ} {cs cs' : List ℤ} {qs qs' : List ℕ} {r : SavRead} → Octets s → ReadsOrdinarily n s cs cs' qs qs' r → r.number ≡ 0 → AcceptedReading n (pdu_of_read r).no_asdu cs'
-accepted_reading {n} {s} {cs} {cs'} {qs} {qs'} {r} bytes c z = go (ordinary_read n (length cs) (length qs) s) refl
+pub accepted_reading : {n : ℕ} {s : List ℕ} {cs cs' : List ℤ} {qs qs' : List ℕ} {r : SavRead} → Octets s → ReadsOrdinarily n s cs cs' qs qs' (Ok r) → AcceptedReading n r.pdu.no_asdu cs'
+accepted_reading {n} {s} {cs} {cs'} {qs} {qs'} {r} bytes c = go (ordinary_read n (length cs) (length qs) s) refl
   where
-    go : (a : Answer (Description × ℕ)) → ordinary_read n (length cs) (length qs) s ≡ a → AcceptedReading n (pdu_of_read r).no_asdu cs'
-    go (refusal k at) e =
-        let i : r.number ≡ k = ap (λ (v : SavRead). v.number) c.meets.read ∙ rw e (refused_number k at) in
-        absurd (omega (arith, ordinary_number n (length cs) (length qs) s e))
+    go : (a : Answer (Description × ℕ)) → ordinary_read n (length cs) (length qs) s ≡ a → AcceptedReading n r.pdu.no_asdu cs'
+    go (refusal k at) e = let z : accepted r ≡ refusal k at = c.meets.read ∙ rw e in cc z
     go (accepted x) e =
-        let m : (pdu_of_read r).no_asdu ≡ length x.0.asdus = ap (λ (v : SavRead). (pdu_of_read v).no_asdu) (c.meets.read ∙ rw e) ∙ saved_count x.0 x.1 in
+        let z : accepted r ≡ accepted (sav_read x) = c.meets.read ∙ rw e in
+        let same : r ≡ sav_read x = cc z in
+        let m : r.pdu.no_asdu ≡ length x.0.asdus = ap (λ (v : SavRead). v.pdu.no_asdu) same ∙ saved_count x.0 x.1 in
         let i : cs' ≡ over cs 0 (all_counts x.0.asdus) = c.meets.counts_are ∙ rw e in
         rw (m, i) (ordinary_accepted n (length qs) s cs x bytes e)
 
 -- of octets that strict reading accepts, the results of either reading are those of the other
-pub as_ordinary : {form : Form} {n : ℕ} {s : List ℕ} {cs cs' : List ℤ} {qs qs' : List ℕ} {r : SavRead} → ReadsStrictly form n s cs cs' qs qs' r → r.number ≡ 0 → ReadsOrdinarily n s cs cs' qs qs' r
-as_ordinary {form} {n} {s} {cs} {cs'} {qs} {qs'} {r} c z =
-    let (x, e) = accepts c z in
+pub as_ordinary : {form : Form} {n : ℕ} {s : List ℕ} {cs cs' : List ℤ} {qs qs' : List ℕ} {r : SavRead} → ReadsStrictly form n s cs cs' qs qs' (Ok r) → ReadsOrdinarily n s cs cs' qs qs' (Ok r)
+as_ordinary {form} {n} {s} {cs} {cs'} {qs} {qs'} c =
+    let (x, e) = accepts c in
     record { meets = rw (e ∙ sym (ordinary_agrees form n (length cs) (length qs) s x.0 x.1 e)) at c.meets }
 
-pub as_strict : (form : Form) {n : ℕ} {s : List ℕ} {cs cs' : List ℤ} {qs qs' : List ℕ} {r : SavRead} (x : Description × ℕ) → ReadsOrdinarily n s cs cs' qs qs' r
-    → strict_read form n (length cs) (length qs) s ≡ accepted x → ReadsStrictly form n s cs cs' qs qs' r × (r.number ≡ 0)
+pub as_strict : (form : Form) {n : ℕ} {s : List ℕ} {cs cs' : List ℤ} {qs qs' : List ℕ} {r : Result SavRead Refusal} (x : Description × ℕ) → ReadsOrdinarily n s cs cs' qs qs' r
+    → strict_read form n (length cs) (length qs) s ≡ accepted x → ReadsStrictly form n s cs cs' qs qs' r × (r ≡ Ok (sav_read x))
 as_strict form {n} {s} {cs} {cs'} {qs} {qs'} {r} x c e =
     let same : ordinary_read n (length cs) (length qs) s ≡ strict_read form n (length cs) (length qs) s = ordinary_agrees form n (length cs) (length qs) s x.0 x.1 e ∙ sym e in
-    let i : r ≡ frame_read (read_as x.0 x.1) = c.meets.read ∙ rw (same, e) in
-    (record { meets = rw same at c.meets }, ap (λ (v : SavRead). v.number) i ∙ saved_number x.0 x.1)
+    (record { meets = rw same at c.meets }, told_same r (Ok (sav_read x)) (c.meets.read ∙ rw (same, e)))
 
 -- ---- the calls of the static library
 

@@ -1,27 +1,24 @@
 -- What U7 means for the calls of Rattle: whatever results meet the contracts of scaling::value_of, count_of, values_of and counts_of, of
 -- encode_values::encode_values and of the readers, with counts and scale factors within the bounds.
-use Rattle.std.specs.Prelude.{◌≡◌, List, ℕ, ◌*◌, ◌≤◌, ℤ, pos, length, take, Float}
-use Rattle.std.proofs.Common.{sym, ap, ◌∙◌, true≢false, mul-zero, le-ltb}
+use Rattle.std.specs.Prelude.{◌≡◌, List, ℕ, ◌*◌, ◌≤◌, ℤ, length, take, Float, Result, Ok}
+use Rattle.std.proofs.Common.{sym, ap, ◌∙◌, mul-zero, le-ltb}
 use Rattle.definition.specs.Limits.{max_channels}
 use Rattle.definition.specs.Frame.{Form, Description, Octets}
-use Rattle.definition.specs.Answers.{Answer, accepted, refusal, is_refused, encode_smv, encode_values, over}
+use Rattle.definition.specs.Answers.{accepted, is_refused, encode_smv, encode_values, over}
 use Rattle.definition.specs.Scaling.{value_of, count_of, counts_of_values, counts_given}
 use Rattle.definition.specs.Flat.{number_of}
 use Rattle.rt_services.specs.declared.SavPdu.{SavPdu}
 use Rattle.rt_services.specs.declared.EthernetHeader.{EthernetHeader}
 use Rattle.rt_services.specs.declared.SavDataSetConfig.{SavDataSetConfig}
 use Rattle.rt_services.specs.declared.SavRead.{SavRead}
-use Rattle.rt_services.specs.declared.Written.{Written}
-use Rattle.rt_services.specs.declared.Counted.{Counted}
-use Rattle.rt_services.specs.declared.Counted.TheVariants as counted
-use Rattle.rt_services.specs.declared.Valued.{Valued}
+use Rattle.rt_services.specs.declared.Refusal.{Refusal}
 use Rattle.rt_services.specs.Describe.{description_of}
-use Rattle.rt_services.specs.Told.{told_written, told_count, told_values}
+use Rattle.rt_services.specs.Reasons.{told}
+use Rattle.rt_services.specs.Told.{answer_as}
+use Rattle.rt_services.proofs.Reasons.{told_same}
 use Rattle.rt_services.specs.Values.{counts_for, described_by}
-use Rattle.scaling.specs.declared.Counts.{Counts}
 use Rattle.scaling.specs.Told.{held_counts}
 use Rattle.encode_values.specs.Values.{first_counts}
-use Rattle.strict_smv.specs.Record.{pdu_of_read}
 use Rattle.record_agreement.specs.Calls.{Encodes, ReadsOrdinarily, ReadsStrictly}
 use Rattle.record_agreement.specs.Accepted.{described_count}
 use Rattle.record_agreement.specs.Theorems.{read_then_write}
@@ -33,27 +30,18 @@ use Rattle.values_agreement.specs.Back.{values_answered, fit_values, scaled, len
 
 -- ---- one count, and all counts of a reading
 
-abbrev count_in : Answer ℤ → ℤ
-count_in (accepted c) = c
-count_in (refusal k at) = pos 0
-
-told_count_lem : (r : Counted) (c : ℤ) → told_count r ≡ accepted c → r ≡ counted.Count c
-unfolding is_refused
-told_count_lem (counted.Count d) c h = ap (λ (x : Answer ℤ). counted.Count (count_in x)) h
-told_count_lem (counted.Refused d) c h = absurd (true≢false (ap is_refused h))
-
 -- `count_of` of what `value_of` gives of a count, with the same scale factor, answers the count.
-pub value_then_count : {c : ℤ} (scale : Float) {value : Float} {r : Counted} → CountWithin greatest c → ScaleWithin scale → value ≡ value_of c scale → told_count r ≡ count_of value scale → r ≡ counted.Count c
-value_then_count {c} scale {value} {r} h k v e = told_count_lem r c (e ∙ rw v (lossless_to c scale h k))
+pub value_then_count : {c : ℤ} (scale : Float) {value : Float} {r : Result ℤ Refusal} → CountWithin greatest c → ScaleWithin scale → value ≡ value_of c scale → told r ≡ count_of value scale → r ≡ Ok c
+value_then_count {c} scale {value} {r} h k v e = told_same r (Ok c) (e ∙ rw v (lossless_to c scale h k))
 
 -- values that are accepted: how many there are, and what `counts_of` asks of them
-pub values_many : {config : SavDataSetConfig} {no_asdu : ℕ} {cs : List ℤ} {old new : List Float} {v : Valued} {m : ℕ} → Scales config no_asdu cs old new v → told_values v ≡ accepted m → m ≡ no_asdu * config.channels
+pub values_many : {config : SavDataSetConfig} {no_asdu : ℕ} {cs : List ℤ} {old new : List Float} {v : Result ℕ Refusal} {m : ℕ} → Scales config no_asdu cs old new v → told v ≡ accepted m → m ≡ no_asdu * config.channels
 values_many {config} {no_asdu} {cs} {old} {new} {v} {m} x a =
     let fit = values_answered config.channels no_asdu (length cs) (length old) (ap number_of (sym x.said ∙ a)) in
     let e : accepted m ≡ accepted (no_asdu * config.channels) = sym a ∙ x.said ∙ fit_values config.channels no_asdu (length cs) (length old) fit in
     cc e
 
-pub counts_asked : {config : SavDataSetConfig} {no_asdu : ℕ} {cs : List ℤ} {old new : List Float} {v : Valued} {m : ℕ} → Scales config no_asdu cs old new v → told_values v ≡ accepted m
+pub counts_asked : {config : SavDataSetConfig} {no_asdu : ℕ} {cs : List ℤ} {old new : List Float} {v : Result ℕ Refusal} {m : ℕ} → Scales config no_asdu cs old new v → told v ≡ accepted m
     → (config.channels ≤ max_channels) × ((config.channels ≡ 0 → m ≡ 0) × (m ≤ length new))
 counts_asked {config} {no_asdu} {cs} {old} {new} {v} {m} x a =
     let fit = values_answered config.channels no_asdu (length cs) (length old) (ap number_of (sym x.said ∙ a)) in
@@ -62,18 +50,18 @@ counts_asked {config} {no_asdu} {cs} {old} {new} {v} {m} x a =
     (fit.channels, (λ z. many ∙ ap (λ (i : ℕ). no_asdu * i) z ∙ mul-zero no_asdu, rw (many, left, length_scaled config.channels no_asdu config.scale_factor cs old fit) fit.values))
 
 -- `counts_of` of the values that `values_of` left, with the same data set, has the counts.
-pub values_then_counts : {config : SavDataSetConfig} {no_asdu : ℕ} {cs : List ℤ} {old new : List Float} {v : Valued} {m : ℕ} {q : Counts}
-    → AllWithin config.channels config.scale_factor cs (no_asdu * config.channels) → Scales config no_asdu cs old new v → told_values v ≡ accepted m
-    → q ≡ held_counts (counts_of_values config.channels config.scale_factor new (no_asdu * config.channels)) → q ≡ held_counts (accepted (take (no_asdu * config.channels) cs))
-values_then_counts {config} {no_asdu} {cs} {old} {new} {v} within c a e =
+pub values_then_counts : {config : SavDataSetConfig} {no_asdu : ℕ} {cs : List ℤ} {old new : List Float} {v : Result ℕ Refusal} {m : ℕ} {q : Result (List ℤ) Refusal}
+    → AllWithin config.channels config.scale_factor cs (no_asdu * config.channels) → Scales config no_asdu cs old new v → told v ≡ accepted m
+    → told q ≡ answer_as held_counts (counts_of_values config.channels config.scale_factor new (no_asdu * config.channels)) → q ≡ Ok (held_counts (take (no_asdu * config.channels) cs))
+values_then_counts {config} {no_asdu} {cs} {old} {new} {v} {q = q} within c a e =
     let fit = values_answered config.channels no_asdu (length cs) (length old) (ap number_of (sym c.said ∙ a)) in
-    e ∙ rw (c.left, a, counts_back config.channels no_asdu config.scale_factor cs old fit within)
+    told_same q (Ok (held_counts (take (no_asdu * config.channels) cs))) (e ∙ rw (c.left, a, counts_back config.channels no_asdu config.scale_factor cs old fit within))
 
 -- ---- a whole frame
 
 -- of a reading that is accepted the values are too, where the array for them is long enough
-values_taken : {config : SavDataSetConfig} {no_asdu : ℕ} {cs : List ℤ} {old new : List Float} {v : Valued} → AcceptedReading config.channels no_asdu cs → no_asdu * config.channels ≤ length old
-    → Scales config no_asdu cs old new v → told_values v ≡ accepted (no_asdu * config.channels)
+values_taken : {config : SavDataSetConfig} {no_asdu : ℕ} {cs : List ℤ} {old new : List Float} {v : Result ℕ Refusal} → AcceptedReading config.channels no_asdu cs → no_asdu * config.channels ≤ length old
+    → Scales config no_asdu cs old new v → told v ≡ accepted (no_asdu * config.channels)
 values_taken {config} {no_asdu} {cs} {old} l long x =
     x.said ∙ fit_values config.channels no_asdu (length cs) (length old) (record { channels = l.channels; counts = l.counts; values = long })
 
@@ -85,8 +73,8 @@ encode_alike form n a a' b room d l h k = rw (le-ltb a (length d.asdus * n) h, l
 -- `encode_values`, of the values that `values_of` left of counts, answers and writes what `encode_smv` does of the counts themselves: the
 -- answer, the refusal's number and place, and every octet of the buffer. The header, the PDU and the counts are any, those of an ordinary
 -- reading among them.
-pub values_written : {form : Form} {config : SavDataSetConfig} {h : EthernetHeader} {p : SavPdu} {cs : List ℤ} {old new : List Float} {v : Valued} {m : ℕ} {qs buffer buffer' : List ℕ} {w : Written}
-    → AllWithin config.channels config.scale_factor cs (p.no_asdu * config.channels) → Scales config p.no_asdu cs old new v → told_values v ≡ accepted m
+pub values_written : {form : Form} {config : SavDataSetConfig} {h : EthernetHeader} {p : SavPdu} {cs : List ℤ} {old new : List Float} {v : Result ℕ Refusal} {m : ℕ} {qs buffer buffer' : List ℕ} {w : Result ℕ Refusal}
+    → AllWithin config.channels config.scale_factor cs (p.no_asdu * config.channels) → Scales config p.no_asdu cs old new v → told v ≡ accepted m
     → EncodesValues form config h p new qs buffer buffer' w → Encodes form config.channels h p cs qs buffer buffer' w
 unfolding counts_for described_by counts_given
 values_written {form} {config} {h} {p} {cs} {old} {new} {v} {m} {qs} {buffer} {buffer'} {w} within x a e =
@@ -98,22 +86,22 @@ values_written {form} {config} {h} {p} {cs} {old} {new} {v} {m} {qs} {buffer} {b
     let c : counts_for p config new ≡ accepted l = rw left (counts_back n p.no_asdu config.scale_factor cs old fit within) in
     let k = described_count n h p cs qs in
     let long : p.no_asdu * n ≤ length new = rw (left, length_scaled n p.no_asdu config.scale_factor cs old fit) fit.values in
-    let said : told_written w ≡ encode_smv form n (length cs) (length qs) (length buffer) d
+    let said : told w ≡ encode_smv form n (length cs) (length qs) (length buffer) d
     = e.said ∙ rw (c, first_counts n h p cs qs) (encode_alike form n (length new) (length cs) (length qs) (length buffer) d l (rw k long) (rw k fit.counts)) in
     record { said = said; left = e.left ∙ rw (said, c, first_counts n h p cs qs) }
 
 -- Ordinary reading, the values of its counts, then the writer of values with the same data set: what was read is written as the counts
 -- that were read are.
-pub read_values_written : {form : Form} {config : SavDataSetConfig} {s : List ℕ} {cs cs' : List ℤ} {qs qs' : List ℕ} {r : SavRead} {old new : List Float} {v : Valued} {buffer buffer' : List ℕ} {w : Written}
-    → Octets s → ReadsOrdinarily config.channels s cs cs' qs qs' r → r.number ≡ 0 → AllWithin config.channels config.scale_factor cs' ((pdu_of_read r).no_asdu * config.channels)
-    → (pdu_of_read r).no_asdu * config.channels ≤ length old → Scales config (pdu_of_read r).no_asdu cs' old new v → EncodesValues form config r.header (pdu_of_read r) new qs' buffer buffer' w
-    → Encodes form config.channels r.header (pdu_of_read r) cs' qs' buffer buffer' w
-read_values_written bytes c z within long x e = values_written within x (values_taken (accepted_reading bytes c z) long x) e
+pub read_values_written : {form : Form} {config : SavDataSetConfig} {s : List ℕ} {cs cs' : List ℤ} {qs qs' : List ℕ} {r : SavRead} {old new : List Float} {v : Result ℕ Refusal} {buffer buffer' : List ℕ} {w : Result ℕ Refusal}
+    → Octets s → ReadsOrdinarily config.channels s cs cs' qs qs' (Ok r) → AllWithin config.channels config.scale_factor cs' (r.pdu.no_asdu * config.channels)
+    → r.pdu.no_asdu * config.channels ≤ length old → Scales config r.pdu.no_asdu cs' old new v → EncodesValues form config r.header r.pdu new qs' buffer buffer' w
+    → Encodes form config.channels r.header r.pdu cs' qs' buffer buffer' w
+read_values_written bytes c within long x e = values_written within x (values_taken (accepted_reading bytes c) long x) e
 
 -- So a frame that strict reading accepts comes back octet for octet through values: read, scaled and written again, with room for it, it is
 -- the frame that was read, and the rest of the buffer is as it was.
-pub read_then_write_values : {form : Form} {config : SavDataSetConfig} {s : List ℕ} {cs cs' : List ℤ} {qs qs' : List ℕ} {r : SavRead} {old new : List Float} {v : Valued} {buffer buffer' : List ℕ} {w : Written}
-    → Octets s → ReadsStrictly form config.channels s cs cs' qs qs' r → r.number ≡ 0 → AllWithin config.channels config.scale_factor cs' ((pdu_of_read r).no_asdu * config.channels)
-    → (pdu_of_read r).no_asdu * config.channels ≤ length old → Scales config (pdu_of_read r).no_asdu cs' old new v → length s ≤ length buffer
-    → EncodesValues form config r.header (pdu_of_read r) new qs' buffer buffer' w → (told_written w ≡ accepted (length s)) × (buffer' ≡ over buffer 0 s)
-read_then_write_values bytes c z within long x room e = read_then_write bytes c z room (read_values_written bytes (as_ordinary c z) z within long x e)
+pub read_then_write_values : {form : Form} {config : SavDataSetConfig} {s : List ℕ} {cs cs' : List ℤ} {qs qs' : List ℕ} {r : SavRead} {old new : List Float} {v : Result ℕ Refusal} {buffer buffer' : List ℕ} {w : Result ℕ Refusal}
+    → Octets s → ReadsStrictly form config.channels s cs cs' qs qs' (Ok r) → AllWithin config.channels config.scale_factor cs' (r.pdu.no_asdu * config.channels)
+    → r.pdu.no_asdu * config.channels ≤ length old → Scales config r.pdu.no_asdu cs' old new v → length s ≤ length buffer
+    → EncodesValues form config r.header r.pdu new qs' buffer buffer' w → (w ≡ Ok (length s)) × (buffer' ≡ over buffer 0 s)
+read_then_write_values bytes c within long x room e = read_then_write bytes c room (read_values_written bytes (as_ordinary c) within long x e)

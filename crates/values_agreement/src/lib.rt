@@ -6,36 +6,34 @@
 
 pub mod flat;
 
-ghost use Rattle.std.specs.Prelude.{◌≡◌, ℕ, ◌*◌, ◌≤◌, length, take};
+ghost use Rattle.std.specs.Prelude.{◌≡◌, ℕ, ◌*◌, ◌≤◌, length, take, Ok, Some, IfOk, IsOkAnd};
+ghost use Rattle.std.specs.Result.{result_map_both};
 ghost use Rattle.definition.specs.Limits.{max_samples};
 ghost use Rattle.definition.specs.Frame.{Description};
 ghost use Rattle.definition.specs.Answers.{accepted, over, strict_read};
 ghost use Rattle.definition.specs.Scaling.{value_of, count_of};
-ghost use Rattle.rt_services.specs.Told.{told_count, told_values, told_written};
-ghost use Rattle.rt_services.specs.declared.Counted.TheVariants as counted;
+ghost use Rattle.rt_services.specs.Reasons.{told};
 ghost use Rattle.scaling.specs.Told.{held_counts};
-ghost use Rattle.strict_smv.specs.Record.{pdu_of_read};
 ghost use Rattle.record_agreement.specs.Calls.{Encodes, ReadsOrdinarily};
 ghost use Rattle.lossless.specs.Bounds.{greatest, CountWithin, ScaleWithin, AllWithin};
 ghost use Rattle.values_agreement.specs.Calls.{Scales, EncodesValues};
 
-use rt_services::{Counted, Refusal, SavDataSetConfig, SavRead, Valued, Written};
-use scaling::Counts;
+use rt_services::{Refusal, SavDataSetConfig, SavRead};
 
 // The value of a count, and the count of that value.
-pub fn value_then_count(count: i32, scale: f32) -> Counted
-    ensures told { told_count result ≡ count_of (value_of count scale) scale }
-    ensures back { CountWithin greatest count → ScaleWithin scale → result ≡ counted.Count count }
+pub fn value_then_count(count: i32, scale: f32) -> Result<i32, Refusal>
+    ensures told { told result ≡ count_of (value_of count scale) scale }
+    ensures back { CountWithin greatest count → ScaleWithin scale → result ≡ Ok count }
 {
     scaling::count_of(scaling::value_of(count, scale), scale)
 }
 
-// What the calls for all counts of a reading answered; no counts where the second call is not made,
-// because the first is refused or there are more values than a description has.
+// How many values there are of the counts of a reading, and what the call for the counts of these
+// values answered; it is not made where there are more than a description has.
 #[derive(Clone, Copy)]
 pub struct ScaledBack {
-    pub valued: Valued,
-    pub back: Counts,
+    pub valued: usize,
+    pub back: Option<Result<[i32; SavDataSetConfig::MAX_SAMPLES], Refusal>>,
 }
 
 // The values of the counts of no_asdu ASDUs, and the counts of these values.
@@ -44,39 +42,26 @@ pub fn values_then_counts(
     no_asdu: u16,
     counts: &[i32],
     values: &mut [f32],
-) -> ScaledBack
-    ensures values { Scales config no_asdu counts.now values.old values.new result.valued }
-    ensures back { (m : ℕ) → told_values result.valued ≡ accepted m → m ≤ max_samples → AllWithin config.channels config.scale_factor counts.now (no_asdu * config.channels)
-        → result.back ≡ held_counts (accepted (take (no_asdu * config.channels) counts.now)) }
+) -> Result<ScaledBack, Refusal>
+    ensures values { Scales config no_asdu counts.now values.old values.new (result_map_both (λ x. x.valued) (λ r. r) result) }
+    ensures back { IfOk result (λ x. x.valued ≤ max_samples → AllWithin config.channels config.scale_factor counts.now (no_asdu * config.channels)
+        → x.back ≡ Some (Ok (held_counts (take (no_asdu * config.channels) counts.now)))) }
 {
-    let valued = scaling::values_of(config, no_asdu, counts, values);
-    let none = Counts {
-        number: 0,
-        counts: [0; SavDataSetConfig::MAX_SAMPLES],
-    };
-    let Valued::Values(m) = valued else {
-        return ScaledBack { valued, back: none };
-    };
-    if SavDataSetConfig::MAX_SAMPLES < m {
-        return ScaledBack { valued, back: none };
+    let valued = scaling::values_of(config, no_asdu, counts, values)?;
+    if SavDataSetConfig::MAX_SAMPLES < valued {
+        return Ok(ScaledBack { valued, back: None });
     }
-    let back = scaling::counts_of(config, m, values);
-    ScaledBack { valued, back }
+    let back = Some(scaling::counts_of(config, valued, values));
+    Ok(ScaledBack { valued, back })
 }
 
-// What the calls for a frame answered; refusals with the number 0 of those that are not made, because
-// the reading is refused.
+// What was read of a frame, and what the two calls for it answered.
 #[derive(Clone, Copy)]
 pub struct Answers {
     pub read: SavRead,
-    pub valued: Valued,
-    pub written: Written,
+    pub valued: Result<usize, Refusal>,
+    pub written: Result<usize, Refusal>,
 }
-
-const NOT_MADE: Refusal = Refusal {
-    number: 0,
-    place: 0,
-};
 
 // Read the ordinary way, and where that is accepted the values of its counts, and the frame of what
 // was read with these values: what `encode_smv` answers and writes of the counts that were read, so
@@ -89,41 +74,33 @@ pub fn read_then_write_values(
     qualities: &mut [u32],
     values: &mut [f32],
     frame: &mut [u8],
-) -> Answers
-    ensures read { ReadsOrdinarily config.channels s.now counts.old counts.new qualities.old qualities.new result.read }
-    ensures scale { result.read.number ≡ 0 → Scales config (pdu_of_read result.read).no_asdu counts.new values.old values.new result.valued }
-    ensures encode { result.read.number ≡ 0 → EncodesValues fixed config result.read.header (pdu_of_read result.read) values.new qualities.new frame.old frame.new result.written }
-    ensures write { result.read.number ≡ 0 → (pdu_of_read result.read).no_asdu * config.channels ≤ length values.old
-        → AllWithin config.channels config.scale_factor counts.new ((pdu_of_read result.read).no_asdu * config.channels)
-        → Encodes fixed config.channels result.read.header (pdu_of_read result.read) counts.new qualities.new frame.old frame.new result.written }
-    ensures strict { (x : Description × ℕ) → strict_read fixed config.channels (length counts.old) (length qualities.old) s.now ≡ accepted x
-        → (pdu_of_read result.read).no_asdu * config.channels ≤ length values.old
-        → AllWithin config.channels config.scale_factor counts.new ((pdu_of_read result.read).no_asdu * config.channels)
+) -> Result<Answers, Refusal>
+    ensures read { ReadsOrdinarily config.channels s.now counts.old counts.new qualities.old qualities.new (result_map_both (λ x. x.read) (λ r. r) result) }
+    ensures scale { IfOk result (λ x. Scales config x.read.pdu.no_asdu counts.new values.old values.new x.valued) }
+    ensures encode { IfOk result (λ x. EncodesValues fixed config x.read.header x.read.pdu values.new qualities.new frame.old frame.new x.written) }
+    ensures write { IfOk result (λ x. x.read.pdu.no_asdu * config.channels ≤ length values.old
+        → AllWithin config.channels config.scale_factor counts.new (x.read.pdu.no_asdu * config.channels)
+        → Encodes fixed config.channels x.read.header x.read.pdu counts.new qualities.new frame.old frame.new x.written) }
+    ensures strict { (f : Description × ℕ) → strict_read fixed config.channels (length counts.old) (length qualities.old) s.now ≡ accepted f
+        → IsOkAnd result (λ x. x.read.pdu.no_asdu * config.channels ≤ length values.old
+        → AllWithin config.channels config.scale_factor counts.new (x.read.pdu.no_asdu * config.channels)
         → length s.now ≤ length frame.old
-        → (told_written result.written ≡ accepted (length s.now)) × (frame.new ≡ over frame.old 0 s.now) }
+        → (x.written ≡ Ok (length s.now)) × (frame.new ≡ over frame.old 0 s.now)) }
 {
-    let read = decode_smv::read_frame(s, config.channels, counts, qualities);
-    if 0 < read.number {
-        return Answers {
-            read,
-            valued: Valued::Refused(NOT_MADE),
-            written: Written::Refused(NOT_MADE),
-        };
-    }
-    let valued = scaling::values_of(config, read.no_asdu, counts, values);
-    let header = read.header;
+    let read = decode_smv::read_frame(s, config.channels, counts, qualities)?;
+    let valued = scaling::values_of(config, read.pdu.no_asdu, counts, values);
     let written = encode_values::encode_values(
-        header,
-        strict_smv::pdu_of(read),
+        read.header,
+        read.pdu,
         config,
         fixed,
         values,
         qualities,
         frame,
     );
-    Answers {
+    Ok(Answers {
         read,
         valued,
         written,
-    }
+    })
 }

@@ -4,7 +4,7 @@ use mathlib.Core.List.{List, [], ◌∷◌, append_assoc, append-nil}
 use Prim.Native.Nat.{ℕ, suc, ◌+◌, ◌-◌, ◌/◌, ◌%◌}
 use native.Mathlib.Nat.{add-zero}
 use native.Mathlib.Omega.{arith}
-use lib.ListN.{set, length-set}
+use lib.ListN.{set}
 use Rattle.ber_encode.specs.Put.{put, put_front}
 use Rattle.definition.specs.Octets.{octets}
 use Rattle.definition.proofs.OctetLaws.{length-octets}
@@ -22,27 +22,21 @@ step buffer₀ at k v j x buffer r =
 
 pub loop-j-init : goal.loop-j-init
 unfolding put
-loop-j-init c = (omega arith, ([], sym (append-nil (octets c.args.k c.args.v)), refl), refl)
+loop-j-init c = ([], sym (append-nil (octets c.args.k c.args.v)), refl)
 
 pub loop-j-preserved : goal.loop-j-preserved
 loop-j-preserved c = let l = c.loop-j in
     let a = c.args in
-    let e : l.j ≡ suc (l.j - 1) = omega arith in (
-      omega arith,
-      step a.buffer.now a.at a.k a.v (l.j - 1) l.x l.buffer
-          (subst (λ (n : ℕ). Left a.buffer.now a.at a.k a.v l.buffer n l.x) e l.invariant.1),
-      length-set l.buffer (a.at + (l.j - 1)) (l.x % 256) ∙ l.invariant.2,
-    )
-
-pub shape_of-buffer : goal.shape_of-buffer
-shape_of-buffer c = c.loop-j.invariant.2
+    let e : l.j ≡ suc (l.j - 1) = omega arith in
+    step a.buffer.now a.at a.k a.v (l.j - 1) l.x l.buffer
+    (subst (λ (n : ℕ). Left a.buffer.now a.at a.k a.v l.buffer n l.x) e l.invariant)
 
 pub returns : goal.returns
 unfolding octets
 returns c = let l = c.loop-j in
     let a = c.args in
     let z : l.j ≡ 0 = omega arith in
-    let r : Left a.buffer.now a.at a.k a.v l.buffer 0 l.x = subst (λ (n : ℕ). Left a.buffer.now a.at a.k a.v l.buffer n l.x) z l.invariant.1 in
+    let r : Left a.buffer.now a.at a.k a.v l.buffer 0 l.x = subst (λ (n : ℕ). Left a.buffer.now a.at a.k a.v l.buffer n l.x) z l.invariant in
     record {
       list = r.2 ∙ ap (λ (n : ℕ). put a.buffer.now n r.0) (add-zero a.at) ∙ ap (λ (w : List ℕ). put a.buffer.now a.at w) (sym r.1);
       place = ap (λ (n : ℕ). a.at + n) (sym (length-octets a.k a.v));

@@ -1,5 +1,4 @@
 -- `ber_encode::put_tag_length` meets its contract: the tag, the first length octet, then the octets of the length. Assumes nothing.
-use mathlib.Core.Path.{◌∙◌}
 use Prim.Native.Nat.{◌+◌}
 use native.Mathlib.Omega.{arith}
 use lib.ListN.{length-set}
@@ -26,9 +25,6 @@ bounds-buffer-p-2 c = simp length-set (omega (arith, size_long _ c.if-n-lt128.fa
 
 pub put_octets-requires : goal.put_octets-requires
 put_octets-requires c = simp length-set (omega (arith, size_long _ c.if-n-lt128.false))
-
-pub shape_of-buffer : goal.shape_of-buffer
-shape_of-buffer c = c.put_octets.auto.buffer ∙ simp length-set
 
 pub returns : goal.returns
 returns c = let a = c.args in

@@ -5,7 +5,7 @@ use mathlib.Core.Logic.{◌⊎◌, inl, inr}
 use Prim.Native.Nat.{ℕ, suc, ◌+◌, ◌-◌, ◌*◌, ◌/◌, ◌^◌, ◌≤◌, ◌<◌}
 use native.Mathlib.Omega.{arith}
 use borrow.Author.Tests.{lt-ltb, le-ltb}
-use lib.Count.{count_leading_zeros, leading_le, leading_length}
+use lib.Count.{count_leading_zeros, leading_length}
 use lib.Pow.{pow_mono}
 use Rattle.definition.specs.Octets.{uint_size}
 use Rattle.definition.proofs.OctetLaws.{lt_or_ge}
@@ -38,9 +38,6 @@ size_is v h = go (leading_length 32 v h) (lt_or_ge v 128) (lt_or_ge v 32768) (lt
     go s (inr a) (inr b) (inl d) e = simp (le-ltb v 128 a, le-ltb v 32768 b, lt-ltb v 8388608 d) (omega (arith, above v s.0 23 s.3 (omega arith), below v s.0 15 s.2 b))
     go s (inr a) (inr b) (inr d) (inl e) = simp (le-ltb v 128 a, le-ltb v 32768 b, le-ltb v 8388608 d, lt-ltb v 2147483648 e) (omega (arith, above v s.0 31 s.3 (omega arith), below v s.0 23 s.2 d))
     go s (inr a) (inr b) (inr d) (inr e) = simp (le-ltb v 128 a, le-ltb v 32768 b, le-ltb v 8388608 d, le-ltb v 2147483648 e) (omega (arith, below v s.0 31 s.2 e))
-
-pub overflow_sub-result : goal.overflow_sub-result
-overflow_sub-result c = omega (arith, leading_le 32 c.args.value)
 
 pub returns : goal.returns
 returns c = size_is c.args.value c.ranges.value.fits

@@ -1,18 +1,20 @@
--- `calls::values` meets its contract: 8 where there are too many scale factors, else the answer of `values_of` of their
--- data set. Assumes nothing.
-use mathlib.Core.Path.{ap}
-use Rattle.rt_services.specs.Told.{told_values}
-use Rattle.calls.specs.Crosses as crosses
+-- `calls::values` meets its contract: 8, then the answer of `values_of` of their data set. Assumes nothing.
+use Rattle.std.proofs.Common.{length}
+use Rattle.std.proofs.lemmas.Result.{err_from_is_err_and}
+use Rattle.rt_services.specs.DataSet.{data_set_of}
+use Rattle.calls.proofs.Scales.{many, set_of, values_many, values_are}
 use Rattle.calls.proofs.values.Goals as goal
 
-pub returns-then-scales-gt-MAX_CHANNELS : goal.returns-then-scales-gt-MAX_CHANNELS
-returns-then-scales-gt-MAX_CHANNELS c = let a = c.args in
-    crosses.values_many a.scales.now a.no_asdu a.counts.now a.values.now _ c.if-scales-gt-MAX_CHANNELS.true
+pub returns-in_err-config : goal.returns-in_err-config
+returns-in_err-config c =
+    let a = c.args in
+    let p = err_from_is_err_and c.from_residual.result c.from_residual.ensures.1 in
+    let m = many (length a.scales.now) (data_set_of a.scales.now) c.in_err-config.ensures in
+    record { told = rw (p.1, p.2, m.1, m.2, values_many a.scales.now a.no_asdu (length a.counts.now) (length a.values.now) m.0); left = rw p.1 }
 
-pub returns-in-Refused : goal.returns-in-Refused
-returns-in-Refused c = let a = c.args in
-    crosses.values_are a.scales.now a.no_asdu a.counts.now a.values.now _ c.data_set-config.ensures c.values_of-v.result c.values_of-v.ensures.told c.values_of-v.ensures.left (ap told_values c.in-Refused.is)
-
-pub returns-in-Values : goal.returns-in-Values
-returns-in-Values c = let a = c.args in
-    crosses.values_are a.scales.now a.no_asdu a.counts.now a.values.now _ c.data_set-config.ensures c.values_of-v.result c.values_of-v.ensures.told c.values_of-v.ensures.left (ap told_values c.in-Values.is)
+pub returns : goal.returns
+unfolding data_set_of
+returns c =
+    let a = c.args in
+    let e = set_of (length a.scales.now) (data_set_of a.scales.now) c.in_ok-config.ensures in
+    record { told = rw e at c.values_of.ensures.told; left = rw (values_are a.scales.now a.counts.now a.no_asdu c.in_ok-config.config e) at c.values_of.ensures.left }

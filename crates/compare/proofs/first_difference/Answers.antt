@@ -1,23 +1,23 @@
--- `compare::first_difference` meets its contract: what agrees up to the shorter length differs as the lengths do; else
--- the octet that `search` found is the first that differs.
-use mathlib.Core.Path.{◌≡◌, sym, ◌∙◌}
-use Prim.Native.Nat.{min}
-use native.Mathlib.Omega.{arith}
-use lib.ListN.{length}
-use Rattle.compare.specs.Differ.{differ_ends, differ_octet}
+-- first_difference: where the octets agree as far as the shorter goes, the lengths tell; else `position` finds the first that differs.
+use Rattle.std.proofs.Common.{take, ◌∙◌, rules, tests}
+use Rattle.std.proofs.lemmas.Slice.Eq.{slice_eq-Decides}
+use Rattle.std.proofs.lemmas.Bool.Decides.{Decides-eqb, not_from_Decides}
+use Rattle.std.proofs.lemmas.Iterator.{YieldsList-from_slice, YieldsList-from_zip}
+use Rattle.std.proofs.lemmas.Iterator.Search.{position_from_yields_List}
+use Rattle.compare.proofs.Differ.{unlike, differ_ends, differ_first}
 use Rattle.compare.proofs.first_difference.Goals as goal
 
-pub returns-then-agree : goal.returns-then-agree
-returns-then-agree c = let a = c.args in
-    c.ends.ensures ∙ sym (differ_ends a.s.now a.t.now (rw c.shorter-n.ensures at (c.agree.ensures c.if-agree.true)))
-
-pub returns-then-k-n : goal.returns-then-k-n
-returns-then-k-n c = let a = c.args in
-    let f = c.search-k.ensures in
-    sym (differ_octet a.s.now a.t.now c.search-k.result (omega arith) (omega arith) f.1 (f.2 (omega arith)))
+pub returns-then-eq : goal.returns-then-eq
+returns-then-eq c =
+    let s = c.args.s.now in
+    let t = c.args.t.now in
+    let n = c.min-n.result in
+    c.then_some.ensures ∙ differ_ends s t n c.min-n.ensures ((slice_eq-Decides Decides-eqb _ _ c.eq.result c.eq.ensures).0 c.if-eq.true)
 
 pub returns : goal.returns
-returns c = let a = c.args in
-    let f = c.search-k.ensures in
-    let e : c.search-k.result ≡ min (length a.s.now) (length a.t.now) = omega arith in
-    c.ends-2.ensures ∙ sym (differ_ends a.s.now a.t.now (rw e at f.1))
+returns c =
+    let s = c.args.s.now in
+    let t = c.args.t.now in
+    let n = c.min-n.result in
+    position_from_yields_List unlike c.position.new.self _ _ c.position.ensures.ran (YieldsList-from_zip (YieldsList-from_slice (take n s) cc) (YieldsList-from_slice (take n t) cc)) (λ x b q k. search (rules, tests))
+    ∙ differ_first s t n c.min-n.ensures (not_from_Decides _ (slice_eq-Decides Decides-eqb _ _ c.eq.result c.eq.ensures) c.if-eq.false)

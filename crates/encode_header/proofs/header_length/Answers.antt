@@ -13,14 +13,14 @@ length-with : (h : EthernetHeader) (sim : Bool) (len m : ℕ) → length h.dst_a
     → 22 + m ≡ length (header_written h sim len)
 length-with h sim len m d s e = omega (arith, e, length_header h sim len d s)
 
-pub returns-in_default : goal.returns-in_default
-returns-in_default c = record {
-  octets = λ sim len. length-with c.args.header sim len 0 (search rules) (search rules) (ap (λ v. length (tag_octets v)) c.in_default.is ∙ rw untagged);
+pub returns-in-Untagged : goal.returns-in-Untagged
+returns-in-Untagged c = record {
+  octets = λ sim len. length-with c.args.header sim len 0 (search rules) (search rules) (ap (λ v. length (tag_octets v)) c.in-Untagged.is ∙ rw untagged);
   bound = omega arith;
 }
 
-pub returns : goal.returns
-returns c = record {
+pub returns-in-Tagged : goal.returns-in-Tagged
+returns-in-Tagged c = record {
   octets = λ sim len. length-with c.args.header sim len 4 (search rules) (search rules) (ap (λ v. length (tag_octets v)) c.in-Tagged.is ∙ length_tagged _ _);
   bound = omega arith;
 }

@@ -1,17 +1,18 @@
--- decode_ethernet_header: by the test for a VLAN tag, then by the length.
-use mathlib.Core.Path.{sym, ◌∙◌, ap}
-use Rattle.ethernet_header.specs.Header.{header_tagged, header_untagged, header_no}
-use Rattle.ethernet_header.specs.Told.{header_read}
+-- decode_ethernet_header: by the length, then by whether there is a VLAN tag.
+use Rattle.std.proofs.Common.{sym, ap, arith}
+use Rattle.rt_services.specs.Describe.{header_record}
+use Rattle.ber_decode.specs.Told.{found}
+use Rattle.ethernet_header.specs.Header.{header_short, header_vlan, header_plain}
 use Rattle.ethernet_header.proofs.decode_ethernet_header.Goals as goal
+use Rattle.ethernet_header.proofs.decode_ethernet_header.Goals.{then-at-eq16, else-at-eq16}
 
-pub returns-then-s-lt22 : goal.returns-then-s-lt22
-returns-then-s-lt22 c = c.no_header.ensures ∙ sym (header_no _ 16 _ (header_tagged _ (sym c.is_tagged.ensures ∙ c.if-is_tagged.true)) c.if-s-lt22.true)
-
-pub returns-then-is_tagged : goal.returns-then-is_tagged
-returns-then-is_tagged c = c.header_from.ensures ∙ rw (c.number16-then-is_tagged.ensures, c.number16.ensures) (ap header_read (sym (header_tagged _ (sym c.is_tagged.ensures ∙ c.if-is_tagged.true))))
-
-pub returns-then-s-lt18 : goal.returns-then-s-lt18
-returns-then-s-lt18 c = c.no_header-then-s-lt18.ensures ∙ sym (header_no _ 12 _ (header_untagged _ (sym c.is_tagged.ensures ∙ c.if-is_tagged.false)) c.if-s-lt18.true)
+pub returns-then-s-at : goal.returns-then-s-at
+returns-then-s-at c = rw c.at.ensures (sym (ap (found header_record) (header_short _ _ c.type_place-at.ensures (omega arith))))
 
 pub returns : goal.returns
-returns c = c.header_from-2.ensures ∙ ap header_read (sym (header_untagged _ (sym c.is_tagged.ensures ∙ c.if-is_tagged.false)))
+returns c =
+    rw (c.address.ensures, c.address-2.ensures, c.number16-2.ensures, c.number16-3.ensures, c.number16-4.ensures)
+    (elim c.if-at-eq16.branch [
+      | then-at-eq16 w ↦ rw (w.vlan-is, w.number16.ensures, w.number16-then-at-eq16.ensures) (header_vlan _ _ c.type_place-at.ensures (omega arith) (omega arith))
+      | else-at-eq16 w ↦ rw w.vlan-is (header_plain _ _ c.type_place-at.ensures (omega arith) (λ h. omega arith))
+    ])

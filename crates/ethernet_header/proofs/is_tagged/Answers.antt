@@ -1,5 +1,5 @@
 -- is_tagged: two octets are 81 00 where their number is.
-use mathlib.Core.Path.{◌∙◌}
+use Rattle.std.proofs.Common.{◌∙◌}
 use Rattle.ethernet_header.specs.Header.{tagged_is}
 use Rattle.ethernet_header.proofs.is_tagged.Goals as goal
 

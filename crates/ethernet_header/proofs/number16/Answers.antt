@@ -1,6 +1,7 @@
--- number16: two octets are below 65,536.
-use Rattle.ber_decode.specs.Cases.{be_lt}
+-- number16: the number of two octets.
+use Rattle.std.proofs.Common.{◌∙◌, sym}
+use Rattle.ethernet_header.specs.Header.{two}
 use Rattle.ethernet_header.proofs.number16.Goals as goal
 
-pub overflow_cast-result : goal.overflow_cast-result
-overflow_cast-result c = rw c.be.ensures (record { fits = be_lt _ (λ k. (c.type_inv.s k).fits) _ 2 })
+pub returns : goal.returns
+returns c = c.from_be_bytes.ensures ∙ sym (two _ _)

@@ -1,17 +1,14 @@
--- pair_at: one case law of pairAt for each way out.
-use mathlib.Core.Path.{sym}
-use native.Mathlib.Omega.{arith}
-use Rattle.ethernet_header.specs.Header.{pair_short, pair_first, pair_both}
+-- pair_at: the three tests in turn.
+use Rattle.std.proofs.Common.{arith}
+use Rattle.std.proofs.lemmas.Bool.Decides.{nat_tests}
+use Rattle.definition.specs.Frame.{and}
+use Rattle.ethernet_header.specs.Header.{pair_at}
 use Rattle.ethernet_header.proofs.pair_at.Goals as goal
 
 pub returns-then-s-at : goal.returns-then-s-at
-returns-then-s-at c = sym (pair_short _ _ _ _ (omega arith))
+unfolding pair_at and
+returns-then-s-at c = grind (arith, nat_tests)
 
-pub returns-then-s-at-lt2 : goal.returns-then-s-at-lt2
-returns-then-s-at-lt2 c = sym (pair_short _ _ _ _ (omega arith))
-
-pub returns-then-s-at-2 : goal.returns-then-s-at-2
-returns-then-s-at-2 c = sym (pair_first _ _ _ _ (omega arith) c.if-s-at-2.true)
-
-pub returns : goal.returns
-returns c = sym (pair_both _ _ _ _ (omega arith) c.if-s-at-2.false)
+pub returns-else-s-at : goal.returns-else-s-at
+unfolding pair_at and
+returns-else-s-at c = grind (arith, nat_tests)

@@ -1,10 +1,11 @@
--- simulation: by the test for a VLAN tag.
-use mathlib.Core.Path.{sym, ◌∙◌}
-use Rattle.ethernet_header.specs.Header.{simulation_tagged, simulation_untagged}
+-- simulation: past the end the mark is off.
+use Rattle.std.proofs.Common.{sym, ◌∙◌, arith}
+use borrow.Author.Tests.{le-ltb}
+use Rattle.ethernet_header.specs.Header.{mark_none, mark_there}
 use Rattle.ethernet_header.proofs.simulation.Goals as goal
 
-pub returns-then-is_tagged : goal.returns-then-is_tagged
-returns-then-is_tagged c = c.first_bit.ensures ∙ sym (simulation_tagged _ (sym c.is_tagged.ensures ∙ c.if-is_tagged.true))
+pub returns-then-at-s : goal.returns-then-at-s
+returns-then-at-s c = sym (mark_there _ _ c.type_place-place.ensures)
 
-pub returns : goal.returns
-returns c = c.first_bit-2.ensures ∙ sym (simulation_untagged _ (sym c.is_tagged.ensures ∙ c.if-is_tagged.false))
+pub returns-else-at-s : goal.returns-else-at-s
+returns-else-at-s c = le-ltb _ _ (omega arith) ∙ sym (mark_none _ _ c.type_place-place.ensures (omega arith))

@@ -1,6 +1,6 @@
 -- `hopsickle::hopsickle_read_strict` meets its contract: the answer of the reader, as two numbers. Assumes nothing.
-use Rattle.calls.specs.Crosses as crosses
+use Rattle.calls.proofs.Crosses.{reads}
 use Rattle.hopsickle.proofs.hopsickle_read_strict.Goals as goal
 
 pub returns : goal.returns
-returns c = crosses.reads c.read_strict-read.ensures c.answer.ensures
+returns c = reads c.read_strict-read.ensures c.and.ensures c.answer.ensures

@@ -1,11 +1,7 @@
--- `record_agreement::widths::counts` meets its contract. The invariant: the elements passed are numbers of 32 bits.
-use Prim.Native.Nat.{◌-◌, ◌≤◌}
-use lib.ListN.{length, take}
+-- The loop's invariant: the elements passed are numbers of 32 bits.
+use Rattle.std.proofs.Common.{take}
 use Rattle.definition.specs.Frame.{Count, All}
 use Rattle.record_agreement.proofs.widths.counts.Given as goal
 
-abbrev pub invariant-loop-i : goal.invariant-loop-i
-invariant-loop-i l = (l.i ≤ length l.l) × All Count (take l.i l.l)
-
-abbrev pub decreases-loop-i : goal.decreases-loop-i
-decreases-loop-i l = length l.l - l.i
+abbrev pub invariant-loop-z : goal.invariant-loop-z
+invariant-loop-z l = All Count (take l.z-index l.l)

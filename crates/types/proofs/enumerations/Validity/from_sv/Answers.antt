@@ -20,5 +20,4 @@ returns-in-2 c = rw c.in-2.is
 
 pub returns-in_default : goal.returns-in_default
 unfolding validity_of
-returns-in_default c = let e : c.args.word % 4 ≡ 3 = omega (arith, c.in_default.in_default-own.rest.1, c.in_default.in_default-own.rest.0.1, c.in_default.in_default-own.rest.0.0.1) in
-    rw e
+returns-in_default c = let e : c.args.word % 4 ≡ 3 = omega arith in rw e

@@ -1,6 +1,0 @@
--- refusal: by the answer's case.
-use borrow.Author.Rules.{rules}
-use Rattle.ber_decode.proofs.Head.refusal.Goals as goal
-
-pub returns-in-Is : goal.returns-in-Is
-returns-in-Is c = rw c.in-Is.is

@@ -1,0 +1,3 @@
+pub mod FlatHeader
+pub mod Scales
+pub mod Crosses

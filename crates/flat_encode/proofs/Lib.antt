@@ -1,0 +1,10 @@
+pub mod Stands
+pub mod Room
+pub mod Marks
+pub mod Records
+pub mod Described
+pub mod Sized
+pub mod Writes
+pub mod Fits
+pub mod Size
+pub mod Values

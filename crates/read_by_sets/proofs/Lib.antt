@@ -1,0 +1,4 @@
+mod First
+pub mod Sets
+mod Whole
+mod Frame

@@ -1,5 +1,0 @@
--- The measure of the loop of read_all.
-use Rattle.replay.proofs.read_all.Given as goal
-
-abbrev pub decreases-loop-turns : goal.decreases-loop-turns
-decreases-loop-turns g l = l.turns

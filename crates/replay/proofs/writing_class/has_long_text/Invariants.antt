@@ -1,9 +1,0 @@
--- Each turn passes one ASDU record.
-use Prim.Native.Nat.{◌≤◌, ◌-◌}
-use Rattle.replay.proofs.writing_class.has_long_text.Given as goal
-
-abbrev pub invariant-loop-k : goal.invariant-loop-k
-invariant-loop-k l = l.k ≤ l.n
-
-abbrev pub decreases-loop-k : goal.decreases-loop-k
-decreases-loop-k l = l.n - l.k

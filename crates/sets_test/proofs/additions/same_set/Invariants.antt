@@ -1,6 +1,0 @@
--- Each turn compares one scale factor.
-use Rattle.std.proofs.Common.{◌-◌}
-use Rattle.sets_test.proofs.additions.same_set.Given as goal
-
-abbrev pub decreases-loop-i : goal.decreases-loop-i
-decreases-loop-i l = 24 - l.i

@@ -1,9 +1,0 @@
--- The loop of read_full: what is read stays within the buffer, and each turn reads something.
-use Rattle.std.proofs.Common.{length, ◌-◌, ◌≤◌}
-use Rattle.svread.proofs.read_full.Given as goal
-
-abbrev pub invariant-loop-done : goal.invariant-loop-done
-invariant-loop-done g l = l.done ≤ length l.buf
-
-abbrev pub decreases-loop-done : goal.decreases-loop-done
-decreases-loop-done g l = length l.initial.buf - l.done
