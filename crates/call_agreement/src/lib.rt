@@ -1,7 +1,9 @@
 // Demand 3 of the calls, as contracts: each function makes two calls, and promises of their answers
 // what the theorem of its name in `flat_agreement` says, for every content and every length of the
 // arrays. Nothing is asked of its caller. Arrays are parameters one by one, as in the C interface.
+// `record_agreement` promises the same of the calls that take records.
 // `fixed` is the form of the counters: fixed, or else shortest.
+// A call answers the number of a refusal, or 0 where it accepts, as in the C interface.
 #![tactic(auto)]
 
 ghost use Rattle.std.specs.Prelude.{◌≡◌, ◌*◌, ◌≤◌, length, take, not, Some, IsSomeAnd};

@@ -1,5 +1,6 @@
 // The parts of the calls of the static library that are no other crate's: an answer as two numbers,
 // the header, an addition to a store of data sets, the values of counts.
+// Arrays are parameters one by one, as the C interface lends them.
 #![tactic(auto)]
 
 ghost use Rattle.std.specs.Prelude.{◌≡◌, ◌*◌, length};

@@ -4,6 +4,7 @@ use rt_services::Refusal;
 use std::fmt;
 
 // The number of a refusal, and its place.
+// A number, and no Reason, since the calls for C and the list have it so.
 #[derive(Clone, Copy, PartialEq, Eq)]
 pub struct Refused {
     pub number: usize,

@@ -117,6 +117,7 @@ impl Case {
     }
 
     // Adds to the store the data set of the scale factors.
+    // The places of a set are computed, since C lends a store as two arrays of numbers.
     pub fn hold(&mut self, conf_rev: u32) {
         let n = self.store.numbers[0] as usize;
         if DataSets::MAX_SETS <= n {

@@ -1,5 +1,6 @@
 // The description that the lines of a case give, as its numbers and octets lie in the two arrays of the
 // flat form.
+// Two arrays with fixed places in them, as in the C interface.
 ghost use Rattle.std.specs.Prelude.{◌≡◌, ◌≤◌, length};
 ghost use Rattle.conformance.specs.declared.description.TheConstants.{MOST};
 

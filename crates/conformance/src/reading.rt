@@ -61,6 +61,7 @@ impl Reading {
 }
 
 // The arrays that a reading is lent.
+// They are apart, as in the C interface, here and in the calls.
 #[derive(Clone, Copy)]
 struct Lent {
     numbers: [u32; description::NUMBERS],

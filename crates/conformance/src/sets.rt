@@ -1,4 +1,5 @@
 // The store of data sets: additions, and readings by it.
+// The arrays of a reading and of the store are apart, as in the C interface.
 use crate::answer::{Outcome, answered};
 use crate::case::Case;
 use crate::lent;

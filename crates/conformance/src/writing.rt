@@ -80,7 +80,8 @@ fn description_octets(case: &Case) -> &[u8] {
     &case.description.octets[..case.room.octets]
 }
 
-// A frame with the counts.
+// A frame with the counts. Each call has parameters of its own, as in the C interface, so each has
+// a function here.
 fn frame(is_fixed: bool, case: &Case, out: &mut [u8]) -> Answer {
     let mut size = lent::NUMBER;
     let number = hopsickle::hopsickle_write(

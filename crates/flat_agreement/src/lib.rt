@@ -3,6 +3,7 @@
 #![tactic(auto)]
 
 // The number of a refusal, or 0; and what stands beside it: its place, or a size or count.
+// Two numbers and no Result, as in the C interface, of whose calls the contracts speak.
 #[derive(Clone, Copy)]
 pub struct Answer {
     pub number: usize,

@@ -1,1 +1,2 @@
 mod Frame
+pub mod Numbers

@@ -1,6 +1,7 @@
 // The static library: the functions that programs in C and Rust call. Each is the function of the same
 // name in the crate hopsickle, and promises the same; proved functions that make several calls stand
 // on that crate, since no crate can stand on a static library.
+// The arrays are lent one by one and answers are numbers, since that is what C has.
 #![tactic(auto)]
 
 ghost use Rattle.std.specs.Prelude.{◌≡◌, ◌*◌, length};

@@ -1,4 +1,6 @@
 // Frames of generated descriptions.
+// sets_test makes the header and most fields alike: a crate for these lines, with contracts and
+// edits of its own, would be longer than they are.
 use crate::Frame;
 use crate::draw::{below, draw};
 use decode_smv::samples::signed;

@@ -19,6 +19,7 @@ use std::io;
 
 // The octets of a frame, and how many they are: none where the writer refuses it. The writer is lent a
 // buffer of fixed length; a Vec would hand an allocator and its error through every function.
+// sets_test has one of another length: a crate for two fields would be longer than they are.
 #[derive(Clone, Copy)]
 pub struct Frame {
     pub octets: [u8; SavPdu::MAX_FRAME],
@@ -33,6 +34,7 @@ impl Frame {
 }
 
 // The arrays that a reading is lent.
+// Counts and quality words are apart, as every reading is lent them.
 #[derive(Clone, Copy, PartialEq)]
 pub struct Arrays {
     pub numbers: [u32; layout::MAX_NUMBERS],

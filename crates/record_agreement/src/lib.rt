@@ -2,6 +2,7 @@
 // answers what the theorem of its name in specs/Theorems.antt says, for every record and every array.
 // Nothing is asked of its caller.
 // `fixed` is the form of the counters: fixed, or else shortest.
+// Counts and quality words are two arrays that the caller lends, as a rule of the project.
 #![tactic(auto)]
 
 pub mod widths;

@@ -1,4 +1,6 @@
 // The frames: thirteen kinds for each row, of the row's confRev and channels.
+// readings_test makes the header and most fields alike: a crate for these lines, with contracts and
+// edits of its own, would be longer than they are.
 use crate::draw::{below, draw};
 use crate::{Frame, history};
 use decode_smv::samples::signed;

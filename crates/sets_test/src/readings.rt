@@ -4,6 +4,7 @@ use rt_services::{Reason, Refusal, SavDataSetConfig};
 use std::num::f32_to_bits_with_nan;
 
 // The numbers and octets of a description, and the samples.
+// Counts and quality words are apart, as every reading is lent them.
 #[derive(Clone, Copy, PartialEq)]
 pub struct Arrays {
     pub numbers: [u32; layout::MAX_NUMBERS],
@@ -23,6 +24,7 @@ impl Arrays {
 }
 
 // A data set: its channels, and the bits of each scale factor.
+// The factors are in an array of fixed length, as in the record of a data set.
 #[derive(Clone, Copy, PartialEq)]
 pub struct SetBits {
     channels: usize,

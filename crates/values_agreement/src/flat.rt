@@ -1,4 +1,5 @@
 // The same of the calls of the static library.
+// They take arrays one by one and answer numbers, as in the C interface.
 ghost use Rattle.std.specs.Prelude.{◌≡◌, ℕ, ◌*◌, ◌≤◌, length, Some, IsSomeAnd};
 ghost use Rattle.definition.specs.Frame.{Description};
 ghost use Rattle.definition.specs.Answers.{accepted, over};

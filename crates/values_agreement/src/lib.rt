@@ -2,6 +2,7 @@
 // the other, and promises of their answers what the theorem of its name in specs/Records.antt or
 // specs/Flat.antt says. Nothing is asked of its caller.
 // `fixed` is the form of the counters: fixed, or else shortest.
+// Counts and quality words are two arrays that the caller lends, as a rule of the project.
 #![tactic(auto)]
 
 pub mod flat;
