@@ -1,7 +1,8 @@
-// Steps over received octets (X.690): a cursor by value, whose steps hand back the next one.
+// Steps over received octets (X.690): a cursor by value, whose steps hand back the next one, as a rule
+// of the project.
 #![tactic(auto)]
 
-ghost use Rattle.std.specs.Prelude.{◌≡◌, ◌+◌, ◌-◌, ◌≤◌, ◌<◌, ◌^◌, length};
+ghost use Rattle.std.specs.Prelude.{◌≡◌, ◌+◌, ◌-◌, ◌≤◌, ◌<◌, ◌^◌, length, ltb};
 ghost use Rattle.definition.specs.Read.{be_at, head_at, number_at, span_at, has_at};
 ghost use Rattle.rt_services.specs.Reasons.{reason_number};
 ghost use Rattle.ber_decode.specs.Told.{told_at, found, head_of, span_from, width_octets};
@@ -49,7 +50,8 @@ pub fn be(s: &[u8], at: usize, n: usize) -> u32
     value
 }
 
-// The n octets from at, sign-extended to width octets.
+// The n octets from at, sign-extended to width octets: of widths of 1, 2 and 4 and any n up to them,
+// where a conversion of the library is of one width.
 fn extended(s: &[u8], at: usize, width: usize, n: usize) -> u32
     requires { (n ≤ width) × (width ≤ 4) × (at + n ≤ length s.now) }
     ensures { result ≡ be_at s.now at n + (256 ^ width - 256 ^ n) }
@@ -59,7 +61,8 @@ fn extended(s: &[u8], at: usize, width: usize, n: usize) -> u32
     whole as u32
 }
 
-// An integer of len octets from at, in a field of width octets.
+// An integer of len octets from at, in a field of width octets. The width is a number here, since
+// `extended` calculates with it.
 fn integer_of(s: &[u8], at: usize, width: usize, len: usize) -> Result<(u32, Cursor), Refusal>
     requires { (1 ≤ width) × (width ≤ 4) × (at + len < 2 ^ 64) }
     ensures { told_at result ≡ number_at width s.now at len }
@@ -90,6 +93,13 @@ impl Width {
 }
 
 impl Cursor {
+    // Whether place and length add up to less than 2^64.
+    fn sum_fits(self, len: usize) -> bool
+        ensures { result ≡ ltb (self.at + len) (2 ^ 64) }
+    {
+        self.at.checked_add(len).is_some()
+    }
+
     // A tag and its length.
     pub fn head(self, s: &[u8]) -> Result<(Head, Cursor), Refusal>
         ensures { told_at result ≡ found head_of (head_at s.now self.at) }
@@ -119,9 +129,9 @@ impl Cursor {
     pub fn integer(self, s: &[u8], width: Width, len: usize) -> Result<(u32, Cursor), Refusal>
         ensures { told_at result ≡ number_at (width_octets width) s.now self.at len }
     {
-        let Some(_) = self.at.checked_add(len) else {
+        if !self.sum_fits(len) {
             return Err(Reason::EndsTooSoon.at(s.len()));
-        };
+        }
         self.integer_after(s, width, len)
     }
 
@@ -134,7 +144,9 @@ impl Cursor {
         integer_of(s, self.at, width.octets(), len)
     }
 
-    // len octets; above limit they are refused for that reason.
+    // len octets; above limit they are refused for that reason. Reason and limit are two parameters
+    // here and in decode_asdu, as a struct of the two would be made at each call and taken apart at
+    // once. `integer` and this answer other things, so that they are no one function.
     pub fn octets(
         self,
         s: &[u8],
@@ -144,9 +156,9 @@ impl Cursor {
     ) -> Result<(Span, Cursor), Refusal>
         ensures { told_at result ≡ found (span_from self.at len) (span_at (reason_number reason) limit s.now self.at len) }
     {
-        let Some(_) = self.at.checked_add(len) else {
+        if !self.sum_fits(len) {
             return Err(Reason::EndsTooSoon.at(s.len()));
-        };
+        }
         self.octets_after(s, reason, limit, len)
     }
 
