@@ -12,7 +12,8 @@ ghost use Rattle.set_store.specs.Held.{above_all, position_in};
 use rt_services::{Reason, Refusal, SavDataSetConfig};
 
 // The numbers are how many sets are held, then confRev and channels of each; the scale factors are 24
-// of each. Two arrays, and functions over them, since C lends a store as two arrays.
+// of each. Two arrays, and functions over them, since C lends a store as two arrays; so the place of a
+// set is a number, below 32 by a plain clause, as are its channels, at most 24.
 #[derive(Clone, Copy)]
 pub struct DataSets {
     pub numbers: [u32; DataSets::NUMBERS],
