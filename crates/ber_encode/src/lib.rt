@@ -1,7 +1,7 @@
 // Writers of tag, length and content into a lent slice. The `put_` writers trust that there is
 // room; the `encode_` ones ask for it first.
-// They are functions over a lent slice and a place, as the original's are and the C interface lends
-// them: a struct of both would have the place written back after every step.
+// They take a lent slice and a place, as the original's do and as the C interface lends: from a
+// struct of both the place would be written back after every step.
 #![tactic(auto)]
 
 ghost use Rattle.std.specs.Prelude.{◌≡◌, ◌∷◌, ◌+◌, ◌-◌, ◌/◌, ◌%◌, ◌≤◌, ◌<◌, length};
