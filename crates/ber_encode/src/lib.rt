@@ -1,15 +1,18 @@
 // Writers of tag, length and content into a lent slice. The `put_` writers trust that there is
 // room; the `encode_` ones ask for it first.
+// They take a lent slice and a place, as the original's do and as the C interface lends: from a
+// struct of both the place would be written back after every step.
 #![tactic(auto)]
 
 ghost use Rattle.std.specs.Prelude.{◌≡◌, ◌∷◌, ◌+◌, ◌-◌, ◌/◌, ◌%◌, ◌≤◌, ◌<◌, length};
 ghost use Rattle.definition.specs.Limits.{length_limit};
 ghost use Rattle.definition.specs.Octets.{octets, length_more, length_octets, uint_size, uint_octets, tlv};
-ghost use Rattle.definition.specs.Answers.{encode_tag_length, encode_ber, leaves};
+ghost use Rattle.definition.specs.Answers.{encode_tag_length, encode_ber};
 ghost use Rattle.ber_encode.specs.Put.{Wrote};
 ghost use Rattle.ber_encode.specs.Size.{length_size, tlv_size};
 ghost use Rattle.ber_encode.specs.Told.{refused_as};
 ghost use Rattle.rt_services.specs.Reasons.{told};
+ghost use Rattle.rt_services.specs.Told.{WritesAt};
 
 use rt_services::{Reason, Refusal};
 
@@ -79,7 +82,7 @@ pub fn put_bytes(buffer: &mut [u8], at: usize, src: &[u8]) -> usize
     end
 }
 
-// A tag and the length n.
+// A tag and the length n, which is a sum of sizes: its limit is asked here, and is not in its type.
 pub fn put_tag_length(buffer: &mut [u8], at: usize, tag: u8, n: usize) -> usize
     requires { (at + 1 + length_size n ≤ length buffer.old) × (n < length_limit) }
     ensures { Wrote buffer.old at (tag ∷ length_octets n) buffer.new result }
@@ -144,8 +147,7 @@ pub fn encode_tag_length(
     buffer: &mut [u8],
     at: usize,
 ) -> Result<usize, Refusal>
-    ensures answer { told result ≡ encode_tag_length (length buffer.old) at tag value }
-    ensures octets { buffer.new ≡ leaves (encode_tag_length (length buffer.old) at tag value) buffer.old at (tag ∷ length_octets value) }
+    ensures { WritesAt (encode_tag_length (length buffer.old) at tag value) at (tag ∷ length_octets value) buffer.old result buffer.new }
 {
     check_room(buffer.len(), at, size_length(value), 0, value)?;
     Ok(put_tag_length(buffer, at, tag, value))
@@ -158,8 +160,7 @@ pub fn encode_unsigned_integer(
     buffer: &mut [u8],
     at: usize,
 ) -> Result<usize, Refusal>
-    ensures answer { told result ≡ encode_ber (length buffer.old) at tag (uint_octets value) }
-    ensures octets { buffer.new ≡ leaves (encode_ber (length buffer.old) at tag (uint_octets value)) buffer.old at (tlv tag (uint_octets value)) }
+    ensures { WritesAt (encode_ber (length buffer.old) at tag (uint_octets value)) at (tlv tag (uint_octets value)) buffer.old result buffer.new }
 {
     let size = unsigned_integer_length(value);
     check_room(buffer.len(), at, size_length(size), size, size)?;
@@ -173,8 +174,7 @@ pub fn encode_octet_string(
     buffer: &mut [u8],
     at: usize,
 ) -> Result<usize, Refusal>
-    ensures answer { told result ≡ encode_ber (length buffer.old) at tag value.now }
-    ensures octets { buffer.new ≡ leaves (encode_ber (length buffer.old) at tag value.now) buffer.old at (tlv tag value.now) }
+    ensures { WritesAt (encode_ber (length buffer.old) at tag value.now) at (tlv tag value.now) buffer.old result buffer.new }
 {
     let size = value.len();
     check_room(buffer.len(), at, size_length(size), size, size)?;

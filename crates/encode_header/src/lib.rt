@@ -1,4 +1,4 @@
-// The writer of a frame's header, up to its PDU.
+// The writer of a frame's header, up to its PDU. Each `put_` writer asks room for what it puts.
 #![tactic(auto)]
 
 ghost use Rattle.std.specs.Prelude.{◌≡◌, Bool, true, ℕ, ◌+◌, ◌≤◌, length};
@@ -9,7 +9,7 @@ ghost use Rattle.encode_header.specs.Header.{tag_octets, header_written, TagFits
 
 use rt_services::{EthernetHeader, Vlan};
 
-// 81 00 and TCI, or nothing.
+// 81 00 and TCI, or nothing: the optional tag is the enum Vlan, as a rule of the project.
 fn put_vlan(frame: &mut [u8], at: usize, vlan: Vlan) -> usize
     requires { TagFits vlan × (at + length (tag_octets vlan) ≤ length frame.old) }
     ensures { Wrote frame.old at (tag_octets vlan) frame.new result }

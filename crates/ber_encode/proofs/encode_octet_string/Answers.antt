@@ -12,7 +12,7 @@ unfolding encode_ber written
 returns-in_err-check_room c = let a = c.args in
     let p = err_from_is_err_and c.from_residual.result c.from_residual.ensures.1 in
     let both = refused_it a.buffer.now a.at (length a.value.now) (tlv a.tag a.value.now) (omega (arith, length_tlv a.tag a.value.now)) c.in_err-check_room.ensures in
-    record { answer = rw (p.1, p.2) both.0; octets = both.1 }
+    record { written = rw (p.1, p.2) both.0; elements = both.1 }
 
 pub put_string-requires : goal.put_string-requires
 put_string-requires c = let a = c.args in
@@ -23,4 +23,4 @@ pub returns : goal.returns
 unfolding encode_ber written
 returns c = let a = c.args in
     let both = wrote_it a.buffer.now a.at (length a.value.now) (tlv a.tag a.value.now) (omega (arith, length_tlv a.tag a.value.now)) c.in_ok-check_room.ensures c.put_string.ensures in
-    record { answer = both.0; octets = both.1 }
+    record { written = both.0; elements = both.1 }

@@ -12,7 +12,7 @@ unfolding encode_tag_length written
 returns-in_err-check_room c = let a = c.args in
     let p = err_from_is_err_and c.from_residual.result c.from_residual.ensures.1 in
     let both = refused_it a.buffer.now a.at a.value (a.tag ∷ length_octets a.value) (omega (arith, length_head a.tag a.value)) c.in_err-check_room.ensures in
-    record { answer = rw (p.1, p.2) both.0; octets = both.1 }
+    record { written = rw (p.1, p.2) both.0; elements = both.1 }
 
 pub put_tag_length-requires : goal.put_tag_length-requires
 put_tag_length-requires c = let a = c.args in
@@ -23,4 +23,4 @@ pub returns : goal.returns
 unfolding encode_tag_length written
 returns c = let a = c.args in
     let both = wrote_it a.buffer.now a.at a.value (a.tag ∷ length_octets a.value) (omega (arith, length_head a.tag a.value)) c.in_ok-check_room.ensures c.put_tag_length.ensures in
-    record { answer = both.0; octets = both.1 }
+    record { written = both.0; elements = both.1 }

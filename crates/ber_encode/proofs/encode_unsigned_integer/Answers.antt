@@ -14,7 +14,7 @@ returns-in_err-check_room c = let a = c.args in
     let k : c.unsigned_integer_length-size.result ≡ length (uint_octets a.value) = c.unsigned_integer_length-size.ensures ∙ sym (length-uint_octets a.value) in
     let p = err_from_is_err_and c.from_residual.result c.from_residual.ensures.1 in
     let both = refused_it a.buffer.now a.at (length (uint_octets a.value)) (tlv a.tag (uint_octets a.value)) (omega (arith, length_tlv a.tag (uint_octets a.value), ap length_size k)) (rw k at c.in_err-check_room.ensures) in
-    record { answer = rw (p.1, p.2) both.0; octets = both.1 }
+    record { written = rw (p.1, p.2) both.0; elements = both.1 }
 
 pub put_uint-requires : goal.put_uint-requires
 put_uint-requires c = let a = c.args in
@@ -27,4 +27,4 @@ unfolding encode_ber written
 returns c = let a = c.args in
     let k : c.unsigned_integer_length-size.result ≡ length (uint_octets a.value) = c.unsigned_integer_length-size.ensures ∙ sym (length-uint_octets a.value) in
     let both = wrote_it a.buffer.now a.at (length (uint_octets a.value)) (tlv a.tag (uint_octets a.value)) (omega (arith, length_tlv a.tag (uint_octets a.value), ap length_size k)) (rw k at c.in_ok-check_room.ensures) c.put_uint.ensures in
-    record { answer = both.0; octets = both.1 }
+    record { written = both.0; elements = both.1 }

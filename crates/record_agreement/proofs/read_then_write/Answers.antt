@@ -12,5 +12,5 @@ returns-clause-write c = λ room.
     let x = c.in_ok-read.read in
     let w = c.encode_smv-written in
     let strict : ReadsStrictly a.fixed a.channels a.s.now a.counts.now r.new.counts a.qualities.now r.new.qualities (Ok x) = record { meets = c.in_ok-read.ensures } in
-    let call : Encodes a.fixed a.channels x.header x.pdu r.new.counts r.new.qualities a.frame.now w.new.frame w.result = record { said = w.ensures.answer; left = w.ensures.octets } in
+    let call : Encodes a.fixed a.channels x.header x.pdu r.new.counts r.new.qualities a.frame.now w.new.frame w.result = record { said = w.ensures.written; left = w.ensures.elements } in
     read_then_write (octets_known a.s.now (λ i. (c.type_inv.s i).fits)) strict room call
