@@ -37,16 +37,16 @@ value_then_count {c} scale {value} {r} h k v e = told_same r (Ok c) (e ∙ rw v 
 -- values that are accepted: how many there are, and what `counts_of` asks of them
 pub values_many : {config : SavDataSetConfig} {no_asdu : ℕ} {cs : List ℤ} {old new : List Float} {v : Result ℕ Refusal} {m : ℕ} → Scales config no_asdu cs old new v → told v ≡ accepted m → m ≡ no_asdu * config.channels
 values_many {config} {no_asdu} {cs} {old} {new} {v} {m} x a =
-    let fit = values_answered config.channels no_asdu (length cs) (length old) (ap number_of (sym x.said ∙ a)) in
-    let e : accepted m ≡ accepted (no_asdu * config.channels) = sym a ∙ x.said ∙ fit_values config.channels no_asdu (length cs) (length old) fit in
+    let fit = values_answered config.channels no_asdu (length cs) (length old) (ap number_of (sym x.meets.written ∙ a)) in
+    let e : accepted m ≡ accepted (no_asdu * config.channels) = sym a ∙ x.meets.written ∙ fit_values config.channels no_asdu (length cs) (length old) fit in
     cc e
 
 pub counts_asked : {config : SavDataSetConfig} {no_asdu : ℕ} {cs : List ℤ} {old new : List Float} {v : Result ℕ Refusal} {m : ℕ} → Scales config no_asdu cs old new v → told v ≡ accepted m
     → (config.channels ≤ max_channels) × ((config.channels ≡ 0 → m ≡ 0) × (m ≤ length new))
 counts_asked {config} {no_asdu} {cs} {old} {new} {v} {m} x a =
-    let fit = values_answered config.channels no_asdu (length cs) (length old) (ap number_of (sym x.said ∙ a)) in
+    let fit = values_answered config.channels no_asdu (length cs) (length old) (ap number_of (sym x.meets.written ∙ a)) in
     let many = values_many x a in
-    let left : new ≡ scaled config.channels no_asdu config.scale_factor cs old = x.left ∙ rw a in
+    let left : new ≡ scaled config.channels no_asdu config.scale_factor cs old = x.meets.elements ∙ rw (sym x.meets.written ∙ a) in
     (fit.channels, (λ z. many ∙ ap (λ (i : ℕ). no_asdu * i) z ∙ mul-zero no_asdu, rw (many, left, length_scaled config.channels no_asdu config.scale_factor cs old fit) fit.values))
 
 -- `counts_of` of the values that `values_of` left, with the same data set, has the counts.
@@ -54,8 +54,8 @@ pub values_then_counts : {config : SavDataSetConfig} {no_asdu : ℕ} {cs : List 
     → AllWithin config.channels config.scale_factor cs (no_asdu * config.channels) → Scales config no_asdu cs old new v → told v ≡ accepted m
     → told q ≡ answer_as held_counts (counts_of_values config.channels config.scale_factor new (no_asdu * config.channels)) → q ≡ Ok (held_counts (take (no_asdu * config.channels) cs))
 values_then_counts {config} {no_asdu} {cs} {old} {new} {v} {q = q} within c a e =
-    let fit = values_answered config.channels no_asdu (length cs) (length old) (ap number_of (sym c.said ∙ a)) in
-    told_same q (Ok (held_counts (take (no_asdu * config.channels) cs))) (e ∙ rw (c.left, a, counts_back config.channels no_asdu config.scale_factor cs old fit within))
+    let fit = values_answered config.channels no_asdu (length cs) (length old) (ap number_of (sym c.meets.written ∙ a)) in
+    told_same q (Ok (held_counts (take (no_asdu * config.channels) cs))) (e ∙ rw (c.meets.elements, sym c.meets.written ∙ a, counts_back config.channels no_asdu config.scale_factor cs old fit within))
 
 -- ---- a whole frame
 
@@ -63,7 +63,7 @@ values_then_counts {config} {no_asdu} {cs} {old} {new} {v} {q = q} within c a e 
 values_taken : {config : SavDataSetConfig} {no_asdu : ℕ} {cs : List ℤ} {old new : List Float} {v : Result ℕ Refusal} → AcceptedReading config.channels no_asdu cs → no_asdu * config.channels ≤ length old
     → Scales config no_asdu cs old new v → told v ≡ accepted (no_asdu * config.channels)
 values_taken {config} {no_asdu} {cs} {old} l long x =
-    x.said ∙ fit_values config.channels no_asdu (length cs) (length old) (record { channels = l.channels; counts = l.counts; values = long })
+    x.meets.written ∙ fit_values config.channels no_asdu (length cs) (length old) (record { channels = l.channels; counts = l.counts; values = long })
 
 -- with the same description, the writer of values that are counts answers as the writer of counts
 encode_alike : (form : Form) (n a a' b room : ℕ) (d : Description) (l : List ℤ) → length d.asdus * n ≤ a → length d.asdus * n ≤ a' → encode_values form n a b room (accepted l) d ≡ encode_smv form n a' b room d
@@ -81,14 +81,14 @@ values_written {form} {config} {h} {p} {cs} {old} {new} {v} {m} {qs} {buffer} {b
     let n : ℕ = config.channels in
     let l : List ℤ = take (p.no_asdu * n) cs in
     let d : Description = description_of n h p cs qs in
-    let fit = values_answered n p.no_asdu (length cs) (length old) (ap number_of (sym x.said ∙ a)) in
-    let left : new ≡ scaled n p.no_asdu config.scale_factor cs old = x.left ∙ rw a in
+    let fit = values_answered n p.no_asdu (length cs) (length old) (ap number_of (sym x.meets.written ∙ a)) in
+    let left : new ≡ scaled n p.no_asdu config.scale_factor cs old = x.meets.elements ∙ rw (sym x.meets.written ∙ a) in
     let c : counts_for p config new ≡ accepted l = rw left (counts_back n p.no_asdu config.scale_factor cs old fit within) in
     let k = described_count n h p cs qs in
     let long : p.no_asdu * n ≤ length new = rw (left, length_scaled n p.no_asdu config.scale_factor cs old fit) fit.values in
     let said : told w ≡ encode_smv form n (length cs) (length qs) (length buffer) d
-    = e.said ∙ rw (c, first_counts n h p cs qs) (encode_alike form n (length new) (length cs) (length qs) (length buffer) d l (rw k long) (rw k fit.counts)) in
-    record { said = said; left = e.left ∙ rw (said, c, first_counts n h p cs qs) }
+    = e.meets.written ∙ rw (c, first_counts n h p cs qs) (encode_alike form n (length new) (length cs) (length qs) (length buffer) d l (rw k long) (rw k fit.counts)) in
+    record { said = said; left = e.meets.elements ∙ rw (sym e.meets.written ∙ said, c, first_counts n h p cs qs) }
 
 -- Ordinary reading, the values of its counts, then the writer of values with the same data set: what was read is written as the counts
 -- that were read are.

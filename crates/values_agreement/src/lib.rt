@@ -52,7 +52,7 @@ pub fn values_then_counts(
     if SavDataSetConfig::MAX_SAMPLES < valued {
         return Ok(ScaledBack { valued, back: None });
     }
-    let back = Some(scaling::counts_of(config, valued, values));
+    let back = Some(scaling::counts_of(config, &values[..valued]));
     Ok(ScaledBack { valued, back })
 }
 

@@ -17,4 +17,5 @@ unfolding data_set_of
 returns c =
     let a = c.args in
     let e = set_of (length a.scales.now) (data_set_of a.scales.now) c.in_ok-config.ensures in
-    record { told = rw e at c.values_of.ensures.told; left = rw (values_are a.scales.now a.counts.now a.no_asdu c.in_ok-config.config e) at c.values_of.ensures.left }
+    let w = c.values_of.ensures in
+    record { told = rw e at w.written; left = rw w.written (rw (values_are a.scales.now a.counts.now a.no_asdu c.in_ok-config.config e) at w.elements) }

@@ -3,4 +3,4 @@ use Rattle.calls.proofs.Crosses.{writes}
 use Rattle.hopsickle.proofs.hopsickle_write_values.Goals as goal
 
 pub returns : goal.returns
-returns c = let w = c.encode_values-written.ensures in writes w.answer (rw w.answer at w.octets) c.answer.ensures
+returns c = writes c.encode_values-written.ensures.written c.encode_values-written.ensures.elements c.answer.ensures

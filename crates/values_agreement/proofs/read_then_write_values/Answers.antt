@@ -23,8 +23,8 @@ returns-clause-write c = λ long within.
     let v = c.values_of-valued in
     let w = c.encode_values-written in
     let o : ReadsOrdinarily a.config.channels a.s.now a.counts.now r.new.counts a.qualities.now r.new.qualities (Ok x) = record { meets = c.in_ok-read.ensures } in
-    let y : Scales a.config x.pdu.no_asdu r.new.counts a.values.now v.new.values v.result = record { said = v.ensures.told; left = v.ensures.left } in
-    let e : EncodesValues a.fixed a.config x.header x.pdu v.new.values r.new.qualities a.frame.now w.new.frame w.result = record { said = w.ensures.answer; left = w.ensures.octets } in
+    let y : Scales a.config x.pdu.no_asdu r.new.counts a.values.now v.new.values v.result = record { meets = v.ensures } in
+    let e : EncodesValues a.fixed a.config x.header x.pdu v.new.values r.new.qualities a.frame.now w.new.frame w.result = record { meets = w.ensures } in
     read_values_written (octets_known a.s.now (λ i. (c.type_inv.s i).fits)) o within long y e
 
 pub returns-clause-strict : goal.returns-clause-strict
@@ -35,7 +35,7 @@ returns-clause-strict c = λ f g long within room.
     let v = c.values_of-valued in
     let w = c.encode_values-written in
     let o : ReadsOrdinarily a.config.channels a.s.now a.counts.now r.new.counts a.qualities.now r.new.qualities (Ok x) = record { meets = c.in_ok-read.ensures } in
-    let y : Scales a.config x.pdu.no_asdu r.new.counts a.values.now v.new.values v.result = record { said = v.ensures.told; left = v.ensures.left } in
-    let e : EncodesValues a.fixed a.config x.header x.pdu v.new.values r.new.qualities a.frame.now w.new.frame w.result = record { said = w.ensures.answer; left = w.ensures.octets } in
+    let y : Scales a.config x.pdu.no_asdu r.new.counts a.values.now v.new.values v.result = record { meets = v.ensures } in
+    let e : EncodesValues a.fixed a.config x.header x.pdu v.new.values r.new.qualities a.frame.now w.new.frame w.result = record { meets = w.ensures } in
     let (strict, _) = as_strict a.fixed f o g in
     read_then_write_values (octets_known a.s.now (λ i. (c.type_inv.s i).fits)) strict within long y room e
