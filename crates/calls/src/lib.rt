@@ -4,12 +4,12 @@
 #![tactic(auto)]
 
 ghost use Rattle.std.specs.Prelude.{◌≡◌, ◌*◌, length};
-ghost use Rattle.definition.specs.Answers.{accepted, leaves, refuse_channels};
+ghost use Rattle.definition.specs.Answers.{accepted, refuse_channels};
 ghost use Rattle.definition.specs.Scaling.{values_answer, values_of};
 ghost use Rattle.definition.specs.Flat.{numbers_of_header, octets_of_header, flat_header, left, number_of, beside_it};
 ghost use Rattle.rt_services.specs.DataSet.{data_set_of};
 ghost use Rattle.rt_services.specs.Reasons.{told};
-ghost use Rattle.rt_services.specs.Told.{answer_as};
+ghost use Rattle.rt_services.specs.Told.{answer_as, WritesAt};
 ghost use Rattle.set_store.specs.Told.{AddedTo};
 
 use flat_decode::{numbers, octets};
@@ -80,8 +80,8 @@ pub fn values(
     counts: &[i32],
     values: &mut [f32],
 ) -> Result<usize, Refusal>
-    ensures told { told result ≡ values_answer (length scales.now) no_asdu (length counts.now) (length values.old) }
-    ensures left { values.new ≡ leaves (told result) values.old 0 (values_of (length scales.now) scales.now counts.now (no_asdu * length scales.now)) }
+    ensures { WritesAt (values_answer (length scales.now) no_asdu (length counts.now) (length values.old)) 0
+        (values_of (length scales.now) scales.now counts.now (no_asdu * length scales.now)) values.old result values.new }
 {
     let config = data_set(scales)?;
     scaling::values_of(config, no_asdu, counts, values)

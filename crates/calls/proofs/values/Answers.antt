@@ -10,7 +10,8 @@ returns-in_err-config c =
     let a = c.args in
     let p = err_from_is_err_and c.from_residual.result c.from_residual.ensures.1 in
     let m = many (length a.scales.now) (data_set_of a.scales.now) c.in_err-config.ensures in
-    record { told = rw (p.1, p.2, m.1, m.2, values_many a.scales.now a.no_asdu (length a.counts.now) (length a.values.now) m.0); left = rw p.1 }
+    let many_said = values_many a.scales.now a.no_asdu (length a.counts.now) (length a.values.now) m.0 in
+    record { written = rw (p.1, p.2, m.1, m.2, many_said); elements = rw many_said }
 
 pub returns : goal.returns
 unfolding data_set_of
@@ -18,4 +19,4 @@ returns c =
     let a = c.args in
     let e = set_of (length a.scales.now) (data_set_of a.scales.now) c.in_ok-config.ensures in
     let w = c.values_of.ensures in
-    record { told = rw e at w.written; left = rw w.written (rw (values_are a.scales.now a.counts.now a.no_asdu c.in_ok-config.config e) at w.elements) }
+    record { written = rw e at w.written; elements = rw (values_are a.scales.now a.counts.now a.no_asdu c.in_ok-config.config e, e) at w.elements }

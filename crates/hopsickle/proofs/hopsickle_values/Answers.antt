@@ -3,4 +3,4 @@ use Rattle.calls.proofs.Crosses.{writes}
 use Rattle.hopsickle.proofs.hopsickle_values.Goals as goal
 
 pub returns : goal.returns
-returns c = let v = c.values.ensures in writes v.told (rw v.told at v.left) c.answer.ensures
+returns c = writes c.values.ensures.written c.values.ensures.elements c.answer.ensures

@@ -3,4 +3,4 @@ use Rattle.calls.proofs.Crosses.{writes}
 use Rattle.hopsickle.proofs.hopsickle_write.Goals as goal
 
 pub returns : goal.returns
-returns c = writes c.encode_smv-written.ensures.answer c.encode_smv-written.ensures.octets c.answer.ensures
+returns c = writes c.encode_smv-written.ensures.written c.encode_smv-written.ensures.elements c.answer.ensures
