@@ -1,4 +1,4 @@
-// The words of a line, and what they stand for.
+// A line, its words, and what they stand for.
 ghost use Rattle.std.specs.Prelude.{◌≤◌, IfOk};
 
 use hex::FromHexError;
@@ -41,15 +41,24 @@ impl From<FromHexError> for LineError {
     }
 }
 
-// The words that are left of a line, with one space between; none at its end.
+// A line: its first word; the words that are left of it, with one space between, none at its end; and
+// the allocator of what they stand for.
 #[derive(Clone, Copy)]
-pub struct Words<'a> {
+pub struct Line<'a> {
+    pub name: &'a str,
     rest: Option<&'a str>,
+    alloc: Global,
 }
 
-impl<'a> Words<'a> {
-    pub fn new(line: &'a str) -> Words<'a> {
-        Words { rest: Some(line) }
+impl<'a> Line<'a> {
+    pub fn new(alloc: Global, text: &'a str) -> Line<'a> {
+        let mut line = Line {
+            name: "",
+            rest: Some(text),
+            alloc,
+        };
+        line.name = line.next();
+        line
     }
 
     // Whether the line ends here.
@@ -77,15 +86,26 @@ impl<'a> Words<'a> {
         }
     }
 
+    // The octets that the next word stands for.
+    pub fn octets(&mut self) -> Result<Vec<u8>, LineError> {
+        let text = self.next();
+        if text == "-" {
+            return Ok(Vec::new(self.alloc));
+        }
+        if text.is_empty() || !is_hexadecimal(text) {
+            return Err(LineError::NotUnderstood);
+        }
+        Ok(hex::decode(self.alloc, text)?)
+    }
+
     // What each word that is left stands for.
     pub fn list<T: Drop, F: Fn(&str) -> Result<T, LineError>>(
         &self,
-        alloc: Global,
         item: F,
     ) -> Result<Vec<T>, LineError>
         requires { F.IsAlwaysCallable item }
     {
-        let mut items = Vec::new(alloc);
+        let mut items = Vec::new(self.alloc);
         for word in self.rest.unwrap_or("").split_terminator(' ') {
             items.push(item(word)?)?;
         }
@@ -146,7 +166,7 @@ pub fn tag(text: &str) -> Result<u8, LineError> {
     u8::try_from(bits(text)?).map_err(|_| LineError::NotUnderstood)
 }
 
-// Whether a word is the second of two.
+// Whether a word is the second of two. A bool, as the calls and the description take it.
 pub fn choice(text: &str, no: &str, yes: &str) -> Result<bool, LineError> {
     if text == yes {
         return Ok(true);
@@ -160,15 +180,4 @@ pub fn choice(text: &str, no: &str, yes: &str) -> Result<bool, LineError> {
 // Whether the counters are of fixed form.
 pub fn is_fixed(text: &str) -> Result<bool, LineError> {
     choice(text, "shortest", "fixed")
-}
-
-// The octets that a text stands for.
-pub fn octets(alloc: Global, text: &str) -> Result<Vec<u8>, LineError> {
-    if text == "-" {
-        return Ok(Vec::new(alloc));
-    }
-    if text.is_empty() || !is_hexadecimal(text) {
-        return Err(LineError::NotUnderstood);
-    }
-    Ok(hex::decode(alloc, text)?)
 }
