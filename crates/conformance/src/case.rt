@@ -70,10 +70,8 @@ impl Case {
 
     // Takes a line that gives something.
     pub fn take(&mut self, mut line: Line) -> Result<(), LineError> {
-        if self.take_list(line)? {
-            return Ok(());
-        }
-        let is_taken = self.take_room(&mut line)?
+        let is_taken = self.take_list(&mut line)?
+            || self.take_room(&mut line)?
             || self.description.take_number(&mut line)?
             || self.description.take_octets(&mut line)?
             || self.description.take_asdu(&mut line)?;
@@ -84,7 +82,7 @@ impl Case {
     }
 
     // Takes a line of a list, if it is one.
-    fn take_list(&mut self, line: Line) -> Result<bool, LineError> {
+    fn take_list(&mut self, line: &mut Line) -> Result<bool, LineError> {
         match line.name {
             "counts" => self.counts = line.list(count)?,
             "qualities" => self.qualities = line.list(|text| decimal(text))?,

@@ -5,7 +5,7 @@ use hex::FromHexError;
 use std::alloc::{AllocError, AllocFailed, Global};
 use std::io;
 use std::num::f32_from_bits_with_nan;
-use std::str::FromStr;
+use std::str::{FromStr, Split};
 
 // Why a line isn't taken: it isn't of the format, or memory or output fails.
 #[derive(Debug, Drop)]
@@ -43,27 +43,26 @@ impl From<FromHexError> for LineError {
 
 // A line: its first word; the words that are left of it, with one space between, none at its end; and
 // the allocator of what they stand for.
-#[derive(Clone, Copy)]
+#[derive(Drop)]
 pub struct Line<'a> {
     pub name: &'a str,
-    rest: Option<&'a str>,
+    words: Split<'a, char>,
     alloc: Global,
 }
 
 impl<'a> Line<'a> {
     pub fn new(alloc: Global, text: &'a str) -> Line<'a> {
-        let mut line = Line {
-            name: "",
-            rest: Some(text),
+        let mut words = text.split(' ');
+        Line {
+            name: words.next().unwrap_or(""),
+            words,
             alloc,
-        };
-        line.name = line.next();
-        line
+        }
     }
 
     // Whether the line ends here.
-    pub fn end(&self) -> Result<(), LineError> {
-        match self.rest {
+    pub fn end(mut self) -> Result<(), LineError> {
+        match self.words.next() {
             Some(_) => Err(LineError::NotUnderstood),
             None => Ok(()),
         }
@@ -71,19 +70,7 @@ impl<'a> Line<'a> {
 
     // The next word; an empty one at the end.
     pub fn next(&mut self) -> &'a str {
-        let Some(text) = self.rest else {
-            return "";
-        };
-        match text.split_once(' ') {
-            Some((word, rest)) => {
-                self.rest = Some(rest);
-                word
-            }
-            None => {
-                self.rest = None;
-                text
-            }
-        }
+        self.words.next().unwrap_or("")
     }
 
     // The octets that the next word stands for.
@@ -100,13 +87,13 @@ impl<'a> Line<'a> {
 
     // What each word that is left stands for.
     pub fn list<T: Drop, F: Fn(&str) -> Result<T, LineError>>(
-        &self,
+        &mut self,
         item: F,
     ) -> Result<Vec<T>, LineError>
         requires { F.IsAlwaysCallable item }
     {
         let mut items = Vec::new(self.alloc);
-        for word in self.rest.unwrap_or("").split_terminator(' ') {
+        for word in self.words.by_ref() {
             items.push(item(word)?)?;
         }
         Ok(items)
