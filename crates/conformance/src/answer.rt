@@ -1,5 +1,5 @@
 // What a call answers, and what its line says that it has to.
-use crate::line::{LineError, Words, bits, choice, count, decimal};
+use crate::line::{Line, LineError, bits, choice, count, decimal};
 use rt_services::Refusal;
 use std::fmt;
 
@@ -41,7 +41,7 @@ impl fmt::Display for Value {
 pub type Answer = Result<Value, Refused>;
 
 // The answer of a function that hands back the number of a refusal or 0, and its place or a number
-// beside accepted.
+// beside accepted, as in the C interface.
 pub fn answered(number: usize, beside: usize) -> Answer {
     if number == 0 {
         return Ok(Value::Number(beside));
@@ -82,9 +82,10 @@ pub enum Form {
     Accepted(usize),
 }
 
-fn refusal(words: &mut Words) -> Result<Refused, LineError> {
-    let number = decimal(words.next())?;
-    let place = decimal(words.next())?;
+// The refusal that the next words say. The list has refusals by number, from 1 on.
+fn refusal(line: &mut Line) -> Result<Refused, LineError> {
+    let number = decimal(line.next())?;
+    let place = decimal(line.next())?;
     if number == 0 {
         return Err(LineError::NotUnderstood);
     }
@@ -92,20 +93,20 @@ fn refusal(words: &mut Words) -> Result<Refused, LineError> {
 }
 
 impl Form {
-    // The answer that the words say.
-    pub fn said(self, mut words: Words) -> Result<Answer, LineError> {
-        let word = words.next();
+    // The answer that the words left of a line say.
+    pub fn said(self, mut line: Line) -> Result<Answer, LineError> {
+        let word = line.next();
         let answer = match (self, word) {
             (Form::YesOrNo, _) => Ok(Value::Number(usize::from(choice(word, "no", "yes")?))),
             (Form::Bits, _) => Ok(Value::Bits(bits(word)?)),
             (Form::Number, _) => Ok(Value::Number(decimal(word)?)),
             (Form::Accepted(n), "accepted") => Ok(Value::Number(n)),
-            (Form::AcceptedNumber, "accepted") => Ok(Value::Number(decimal(words.next())?)),
-            (Form::AcceptedCount, "accepted") => Ok(Value::Count(count(words.next())?)),
-            (_, "refused") => Err(refusal(&mut words)?),
+            (Form::AcceptedNumber, "accepted") => Ok(Value::Number(decimal(line.next())?)),
+            (Form::AcceptedCount, "accepted") => Ok(Value::Count(count(line.next())?)),
+            (_, "refused") => Err(refusal(&mut line)?),
             _ => return Err(LineError::NotUnderstood),
         };
-        words.end()?;
+        line.end()?;
         Ok(answer)
     }
 }

@@ -1,12 +1,11 @@
 // The calls that lines name.
 use crate::answer::{Form, Outcome, Value};
 use crate::case::{BUFFER, Case};
-use crate::line::{LineError, Words, decimal, is_fixed};
+use crate::line::{Line, LineError, decimal, is_fixed};
 use crate::numbers::{Calculation, values_of};
 use crate::reading::Reading;
 use crate::sets;
 use crate::writing::{Writing, size};
-use std::alloc::Global;
 
 #[derive(Drop)]
 pub enum Call {
@@ -21,22 +20,22 @@ pub enum Call {
 
 impl Call {
     // The call that a line's first word names, if it does, with its arguments.
-    pub fn parse(alloc: Global, word: &str, words: &mut Words) -> Result<Option<Call>, LineError> {
-        if let Some(reading) = Reading::parse(word, words)? {
+    pub fn parse(line: &mut Line) -> Result<Option<Call>, LineError> {
+        if let Some(reading) = Reading::parse(line)? {
             return Ok(Some(Call::Read(reading)));
         }
-        if let Some(writing) = Writing::parse(alloc, word, words)? {
+        if let Some(writing) = Writing::parse(line)? {
             return Ok(Some(Call::Write(writing)));
         }
-        if let Some(calculation) = Calculation::parse(word, words)? {
+        if let Some(calculation) = Calculation::parse(line)? {
             return Ok(Some(Call::Calculate(calculation)));
         }
-        Ok(Some(match word {
-            "sets_add" => Call::SetsAdd(decimal(words.next())?),
+        Ok(Some(match line.name {
+            "sets_add" => Call::SetsAdd(decimal(line.next())?),
             "size" => Call::Size {
-                is_fixed: is_fixed(words.next())?,
+                is_fixed: is_fixed(line.next())?,
             },
-            "values_of" => Call::ValuesOf(decimal(words.next())?),
+            "values_of" => Call::ValuesOf(decimal(line.next())?),
             "is_smv" => Call::IsSmv,
             _ => return Ok(None),
         }))
@@ -59,7 +58,7 @@ impl Call {
         }
     }
 
-    // Makes the call; a writer writes into the buffer.
+    // Makes the call; a writer writes into the buffer. One match: each call has parameters of its own.
     pub fn make(&self, case: &mut Case, buffer: &mut [u8; BUFFER]) -> Outcome {
         match self {
             Call::Read(reading) => reading.make(case),

@@ -5,7 +5,7 @@ ghost use Rattle.conformance.specs.declared.description.TheConstants.{NUMBERS, O
 
 use crate::description;
 use crate::description::Description;
-use crate::line::{LineError, Words, at_most, count, decimal, float, octets};
+use crate::line::{Line, LineError, at_most, count, decimal, float};
 use rt_services::{SavDataSetConfig, SavPdu};
 use set_store::DataSets;
 use std::alloc::Global;
@@ -44,7 +44,6 @@ pub struct Case {
     pub scales: Vec<f32>,
     pub description: Description,
     pub store: DataSets,
-    alloc: Global,
 }
 
 impl Case {
@@ -66,50 +65,48 @@ impl Case {
             scales: Vec::new(alloc),
             description: Description::empty(),
             store: DataSets::empty(),
-            alloc,
         }
     }
 
     // Takes a line that gives something.
-    pub fn take(&mut self, word: &str, mut words: Words) -> Result<(), LineError> {
-        if self.take_list(word, words)? {
-            return Ok(());
-        }
-        let is_taken = self.take_room(word, &mut words)?
-            || self.description.take_number(word, &mut words)?
-            || self.description.take_octets(self.alloc, word, &mut words)?
-            || self.description.take_asdu(self.alloc, word, &mut words)?;
+    pub fn take(&mut self, mut line: Line) -> Result<(), LineError> {
+        let is_taken = self.take_list(&mut line)?
+            || self.take_room(&mut line)?
+            || self.description.take_number(&mut line)?
+            || self.description.take_octets(&mut line)?
+            || self.description.take_asdu(&mut line)?;
         if !is_taken {
             return Err(LineError::NotUnderstood);
         }
-        words.end()
+        line.end()
     }
 
     // Takes a line of a list, if it is one.
-    fn take_list(&mut self, word: &str, words: Words) -> Result<bool, LineError> {
-        match word {
-            "counts" => self.counts = words.list(self.alloc, count)?,
-            "qualities" => self.qualities = words.list(self.alloc, |text| decimal(text))?,
-            "values" => self.values = words.list(self.alloc, float)?,
-            "scales" => self.scales = words.list(self.alloc, float)?,
+    fn take_list(&mut self, line: &mut Line) -> Result<bool, LineError> {
+        match line.name {
+            "counts" => self.counts = line.list(count)?,
+            "qualities" => self.qualities = line.list(|text| decimal(text))?,
+            "values" => self.values = line.list(float)?,
+            "scales" => self.scales = line.list(float)?,
             _ => return Ok(false),
         }
         Ok(true)
     }
 
-    // Takes a line of the octets, the channels or how much is lent, if it is one.
-    fn take_room(&mut self, word: &str, words: &mut Words) -> Result<bool, LineError> {
-        match word {
-            "octets" => self.octets = octets(self.alloc, words.next())?,
-            "channels" => self.channels = decimal::<u32>(words.next())? as usize,
-            "buffer" => self.room.buffer = at_most(BUFFER, words.next())?,
+    // Takes a line of the octets, the channels or how much is lent, if it is one. A match of the format's
+    // words: an enum of them would only add a second match.
+    fn take_room(&mut self, line: &mut Line) -> Result<bool, LineError> {
+        match line.name {
+            "octets" => self.octets = line.octets()?,
+            "channels" => self.channels = decimal::<u32>(line.next())? as usize,
+            "buffer" => self.room.buffer = at_most(BUFFER, line.next())?,
             "room" => {
-                self.room.counts = at_most(LIST, words.next())?;
-                self.room.qualities = at_most(LIST, words.next())?;
+                self.room.counts = at_most(LIST, line.next())?;
+                self.room.qualities = at_most(LIST, line.next())?;
             }
             "flat" => {
-                self.room.numbers = at_most(description::NUMBERS, words.next())?;
-                self.room.octets = at_most(description::OCTETS, words.next())?;
+                self.room.numbers = at_most(description::NUMBERS, line.next())?;
+                self.room.octets = at_most(description::OCTETS, line.next())?;
             }
             _ => return Ok(false),
         }

@@ -4,9 +4,8 @@
 ghost use Rattle.std.specs.Prelude.{◌≡◌, ◌≤◌, length};
 ghost use Rattle.conformance.specs.declared.description.TheConstants.{MOST};
 
-use crate::line::{LineError, Words, at_most, bits, choice, decimal, octets};
+use crate::line::{Line, LineError, at_most, bits, choice, decimal};
 use layout::{ASDU_NUMBERS, ASDU_OCTETS};
-use std::alloc::Global;
 
 // A description of so many ASDUs can be given.
 const MOST: usize = 10;
@@ -53,58 +52,54 @@ impl Description {
     }
 
     // Puts a number at any place.
-    fn put_number(&mut self, words: &mut Words) -> Result<(), LineError> {
-        let i = at_most(NUMBERS - 1, words.next())?;
-        self.numbers[i] = decimal(words.next())?;
+    fn put_number(&mut self, line: &mut Line) -> Result<(), LineError> {
+        let i = at_most(NUMBERS - 1, line.next())?;
+        self.numbers[i] = decimal(line.next())?;
         Ok(())
     }
 
-    // Takes a line of the numbers before the ASDUs, if it is one.
-    pub fn take_number(&mut self, word: &str, words: &mut Words) -> Result<bool, LineError> {
-        match word {
+    // Takes a line of the numbers before the ASDUs, if it is one. A match of the format's words, here and
+    // below: an enum of them would only add a second match.
+    pub fn take_number(&mut self, line: &mut Line) -> Result<bool, LineError> {
+        match line.name {
             "vlan" => {
                 self.numbers[layout::TAGGED] = 1;
-                self.numbers[layout::TPID] = bits(words.next())?;
-                self.numbers[layout::TCI] = bits(words.next())?;
+                self.numbers[layout::TPID] = bits(line.next())?;
+                self.numbers[layout::TCI] = bits(line.next())?;
             }
-            "ethertype" => self.numbers[layout::ETHER_TYPE] = bits(words.next())?,
-            "appid" => self.numbers[layout::APPID] = bits(words.next())?,
-            "length" => self.numbers[layout::LENGTH] = decimal(words.next())?,
+            "ethertype" => self.numbers[layout::ETHER_TYPE] = bits(line.next())?,
+            "appid" => self.numbers[layout::APPID] = bits(line.next())?,
+            "length" => self.numbers[layout::LENGTH] = decimal(line.next())?,
             "simulation" => {
-                let is_on = choice(words.next(), "off", "on")?;
+                let is_on = choice(line.next(), "off", "on")?;
                 self.numbers[layout::SIMULATION] = u32::from(is_on);
             }
             "asdu" => self.start_asdu()?,
-            "number" => self.put_number(words)?,
+            "number" => self.put_number(line)?,
             _ => return Ok(false),
         }
         Ok(true)
     }
 
     // Takes a line of the octets before the ASDUs, if it is one.
-    pub fn take_octets(
-        &mut self,
-        alloc: Global,
-        word: &str,
-        words: &mut Words,
-    ) -> Result<bool, LineError> {
-        match word {
+    pub fn take_octets(&mut self, line: &mut Line) -> Result<bool, LineError> {
+        match line.name {
             "destination" => {
-                let address = octets(alloc, words.next())?;
+                let address = line.octets()?;
                 put_all(
                     &mut self.octets[layout::DST_ADDR..layout::SRC_ADDR],
                     &address,
                 )?;
             }
             "source" => {
-                let address = octets(alloc, words.next())?;
+                let address = line.octets()?;
                 put_all(
                     &mut self.octets[layout::SRC_ADDR..layout::SECURITY_OCTETS],
                     &address,
                 )?;
             }
             "security" => {
-                let security = octets(alloc, words.next())?;
+                let security = line.octets()?;
                 self.numbers[layout::SECURITY] = 1;
                 self.numbers[layout::SECURITY_LENGTH] = put(
                     &mut self.octets[layout::SECURITY_OCTETS..layout::HEAD_OCTETS],
@@ -117,12 +112,7 @@ impl Description {
     }
 
     // Takes a line of the last ASDU, if it is one and there is an ASDU.
-    pub fn take_asdu(
-        &mut self,
-        alloc: Global,
-        word: &str,
-        words: &mut Words,
-    ) -> Result<bool, LineError> {
+    pub fn take_asdu(&mut self, line: &mut Line) -> Result<bool, LineError> {
         let Some(last) = self.asdus.checked_sub(1) else {
             return Ok(false);
         };
@@ -130,10 +120,7 @@ impl Description {
         let numbers = &mut self.numbers[at..at + ASDU_NUMBERS];
         let at = layout::HEAD_OCTETS + last * ASDU_OCTETS;
         let octets = &mut self.octets[at..at + ASDU_OCTETS];
-        Ok(
-            take_asdu_number(numbers, word, words)?
-                || take_asdu_octets(alloc, numbers, octets, word, words)?,
-        )
+        Ok(take_asdu_number(numbers, line)? || take_asdu_octets(numbers, octets, line)?)
     }
 }
 
@@ -156,20 +143,20 @@ fn put_all(field: &mut [u8], octets: &[u8]) -> Result<(), LineError> {
 }
 
 // Takes a line of the numbers of an ASDU, if it is one.
-fn take_asdu_number(numbers: &mut [u32], word: &str, words: &mut Words) -> Result<bool, LineError>
+fn take_asdu_number(numbers: &mut [u32], line: &mut Line) -> Result<bool, LineError>
     requires { length numbers.old ≡ ASDU_NUMBERS }
 {
-    match word {
-        "smpCnt" => numbers[layout::SMP_CNT] = decimal(words.next())?,
-        "confRev" => numbers[layout::CONF_REV] = decimal(words.next())?,
-        "smpSynch" => numbers[layout::SMP_SYNCH] = decimal(words.next())?,
+    match line.name {
+        "smpCnt" => numbers[layout::SMP_CNT] = decimal(line.next())?,
+        "confRev" => numbers[layout::CONF_REV] = decimal(line.next())?,
+        "smpSynch" => numbers[layout::SMP_SYNCH] = decimal(line.next())?,
         "smpRate" => {
             numbers[layout::SMP_RATE] = 1;
-            numbers[layout::SMP_RATE_VALUE] = decimal(words.next())?;
+            numbers[layout::SMP_RATE_VALUE] = decimal(line.next())?;
         }
         "smpMod" => {
             numbers[layout::SMP_MOD] = 1;
-            numbers[layout::SMP_MOD_VALUE] = decimal(words.next())?;
+            numbers[layout::SMP_MOD_VALUE] = decimal(line.next())?;
         }
         _ => return Ok(false),
     }
@@ -178,25 +165,23 @@ fn take_asdu_number(numbers: &mut [u32], word: &str, words: &mut Words) -> Resul
 
 // Takes a line of the octets of an ASDU, if it is one.
 fn take_asdu_octets(
-    alloc: Global,
     numbers: &mut [u32],
     asdu: &mut [u8],
-    word: &str,
-    words: &mut Words,
+    line: &mut Line,
 ) -> Result<bool, LineError>
     requires numbers { length numbers.old ≡ ASDU_NUMBERS }
     requires octets { length asdu.old ≡ ASDU_OCTETS }
 {
-    match word {
+    match line.name {
         "svID" => {
-            let text = octets(alloc, words.next())?;
+            let text = line.octets()?;
             numbers[layout::SV_ID_LENGTH] = put(
                 &mut asdu[layout::SV_ID_OCTETS..layout::DAT_SET_OCTETS],
                 &text,
             );
         }
         "datSet" => {
-            let text = octets(alloc, words.next())?;
+            let text = line.octets()?;
             numbers[layout::DAT_SET] = 1;
             numbers[layout::DAT_SET_LENGTH] = put(
                 &mut asdu[layout::DAT_SET_OCTETS..layout::REFR_TM_OCTETS],
@@ -204,7 +189,7 @@ fn take_asdu_octets(
             );
         }
         "refrTm" => {
-            let time = octets(alloc, words.next())?;
+            let time = line.octets()?;
             numbers[layout::REFR_TM] = 1;
             put_all(
                 &mut asdu[layout::REFR_TM_OCTETS..layout::GM_IDENTITY_OCTETS],
@@ -212,7 +197,7 @@ fn take_asdu_octets(
             )?;
         }
         "gmIdentity" => {
-            let identity = octets(alloc, words.next())?;
+            let identity = line.octets()?;
             numbers[layout::GM_IDENTITY] = 1;
             put_all(&mut asdu[layout::GM_IDENTITY_OCTETS..], &identity)?;
         }

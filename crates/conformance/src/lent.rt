@@ -9,6 +9,7 @@ pub trait Element: Copy + PartialEq {
     // Before a call: 4D in each of its octets.
     const LENT: Self;
 
+    // By `==`, but for floats, of which a NaN is the same as a NaN.
     fn is_same(self, other: Self) -> bool {
         self == other
     }

@@ -1,11 +1,11 @@
-// The words of a line, and what they stand for.
+// A line, its words, and what they stand for.
 ghost use Rattle.std.specs.Prelude.{◌≤◌, IfOk};
 
 use hex::FromHexError;
 use std::alloc::{AllocError, AllocFailed, Global};
 use std::io;
 use std::num::f32_from_bits_with_nan;
-use std::str::FromStr;
+use std::str::{FromStr, Split};
 
 // Why a line isn't taken: it isn't of the format, or memory or output fails.
 #[derive(Debug, Drop)]
@@ -41,20 +41,28 @@ impl From<FromHexError> for LineError {
     }
 }
 
-// The words that are left of a line, with one space between; none at its end.
-#[derive(Clone, Copy)]
-pub struct Words<'a> {
-    rest: Option<&'a str>,
+// A line: its first word; the words that are left of it, with one space between, none at its end; and
+// the allocator of what they stand for.
+#[derive(Drop)]
+pub struct Line<'a> {
+    pub name: &'a str,
+    words: Split<'a, char>,
+    alloc: Global,
 }
 
-impl<'a> Words<'a> {
-    pub fn new(line: &'a str) -> Words<'a> {
-        Words { rest: Some(line) }
+impl<'a> Line<'a> {
+    pub fn new(alloc: Global, text: &'a str) -> Line<'a> {
+        let mut words = text.split(' ');
+        Line {
+            name: words.next().unwrap_or(""),
+            words,
+            alloc,
+        }
     }
 
     // Whether the line ends here.
-    pub fn end(&self) -> Result<(), LineError> {
-        match self.rest {
+    pub fn end(mut self) -> Result<(), LineError> {
+        match self.words.next() {
             Some(_) => Err(LineError::NotUnderstood),
             None => Ok(()),
         }
@@ -62,31 +70,30 @@ impl<'a> Words<'a> {
 
     // The next word; an empty one at the end.
     pub fn next(&mut self) -> &'a str {
-        let Some(text) = self.rest else {
-            return "";
-        };
-        match text.split_once(' ') {
-            Some((word, rest)) => {
-                self.rest = Some(rest);
-                word
-            }
-            None => {
-                self.rest = None;
-                text
-            }
+        self.words.next().unwrap_or("")
+    }
+
+    // The octets that the next word stands for.
+    pub fn octets(&mut self) -> Result<Vec<u8>, LineError> {
+        let text = self.next();
+        if text == "-" {
+            return Ok(Vec::new(self.alloc));
         }
+        if text.is_empty() || !is_hexadecimal(text) {
+            return Err(LineError::NotUnderstood);
+        }
+        Ok(hex::decode(self.alloc, text)?)
     }
 
     // What each word that is left stands for.
     pub fn list<T: Drop, F: Fn(&str) -> Result<T, LineError>>(
-        &self,
-        alloc: Global,
+        &mut self,
         item: F,
     ) -> Result<Vec<T>, LineError>
         requires { F.IsAlwaysCallable item }
     {
-        let mut items = Vec::new(alloc);
-        for word in self.rest.unwrap_or("").split_terminator(' ') {
+        let mut items = Vec::new(self.alloc);
+        for word in self.words.by_ref() {
             items.push(item(word)?)?;
         }
         Ok(items)
@@ -146,7 +153,7 @@ pub fn tag(text: &str) -> Result<u8, LineError> {
     u8::try_from(bits(text)?).map_err(|_| LineError::NotUnderstood)
 }
 
-// Whether a word is the second of two.
+// Whether a word is the second of two. A bool, as the calls and the description take it.
 pub fn choice(text: &str, no: &str, yes: &str) -> Result<bool, LineError> {
     if text == yes {
         return Ok(true);
@@ -160,15 +167,4 @@ pub fn choice(text: &str, no: &str, yes: &str) -> Result<bool, LineError> {
 // Whether the counters are of fixed form.
 pub fn is_fixed(text: &str) -> Result<bool, LineError> {
     choice(text, "shortest", "fixed")
-}
-
-// The octets that a text stands for.
-pub fn octets(alloc: Global, text: &str) -> Result<Vec<u8>, LineError> {
-    if text == "-" {
-        return Ok(Vec::new(alloc));
-    }
-    if text.is_empty() || !is_hexadecimal(text) {
-        return Err(LineError::NotUnderstood);
-    }
-    Ok(hex::decode(alloc, text)?)
 }

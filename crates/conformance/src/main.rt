@@ -16,7 +16,7 @@ mod writing;
 use crate::answer::{Answer, Value};
 use crate::call::Call;
 use crate::case::{BUFFER, Case};
-use crate::line::{LineError, Words};
+use crate::line::{Line, LineError};
 use std::alloc::Global;
 use std::io;
 
@@ -49,12 +49,12 @@ impl Run {
     }
 
     // Takes a line; one that is empty or a comment says nothing.
-    fn take(&mut self, rt: &impl Print, line: &str) -> io::Result<()> {
+    fn take(&mut self, rt: &impl Print, text: &str) -> io::Result<()> {
         self.lines = self.lines.saturating_add(1);
-        if line.is_empty() || line.starts_with('#') {
+        if text.is_empty() || text.starts_with('#') {
             return Ok(());
         }
-        match self.take_line(rt, line) {
+        match self.take_line(rt, Line::new(self.alloc, text)) {
             Ok(()) => Ok(()),
             Err(LineError::Io(e)) => Err(e),
             Err(LineError::NotUnderstood) => self.not_understood(rt),
@@ -62,26 +62,24 @@ impl Run {
     }
 
     // Takes a line that isn't empty or a comment.
-    fn take_line(&mut self, rt: &impl Print, line: &str) -> Result<(), LineError> {
-        let mut words = Words::new(line);
-        let word = words.next();
-        if word == "case" {
+    fn take_line(&mut self, rt: &impl Print, mut line: Line) -> Result<(), LineError> {
+        if line.name == "case" {
             self.case = Case::new(self.alloc);
             self.cases = self.cases.saturating_add(1);
             return Ok(());
         }
-        if let Some(call) = Call::parse(self.alloc, word, &mut words)? {
-            self.take_call(rt, &call, words)?;
+        if let Some(call) = Call::parse(&mut line)? {
+            self.take_call(rt, &call, line)?;
             return Ok(());
         }
-        self.case.take(word, words)
+        self.case.take(line)
     }
 
     // Makes a call, and holds its answer against the one that its line says.
-    fn take_call(&mut self, rt: &impl Print, call: &Call, words: Words) -> io::Result<()> {
+    fn take_call(&mut self, rt: &impl Print, call: &Call, line: Line) -> io::Result<()> {
         self.answers = self.answers.saturating_add(1);
         let outcome = call.make(&mut self.case, &mut self.buffer);
-        let said = call.form(&self.case).said(words);
+        let said = call.form(&self.case).said(line);
         if outcome.is_right && said.is_ok_and(|said| said == outcome.answer) {
             return Ok(());
         }
@@ -92,7 +90,7 @@ impl Run {
         Ok(())
     }
 
-    // An answer that a line doesn't say.
+    // An answer that a line doesn't say. Printed part by part: the octets of a writer are the run's.
     fn print_answer(&self, rt: &impl Print, call: &Call, answer: Answer) -> io::Result<()> {
         print!(rt; "line {}: answered ", self.lines)?;
         match answer {
@@ -125,6 +123,7 @@ impl Run {
         Ok(())
     }
 
+    // Nothing else shows these numbers, so a Display would be longer.
     fn print(&self, rt: &impl Print) -> io::Result<()> {
         println!(rt; "{} cases", self.cases)?;
         println!(rt; "{} answers", self.answers)?;
@@ -135,8 +134,8 @@ impl Run {
 fn main(rt: HostRuntime) -> io::Result<()> {
     let list = io::read_to_string(rt.alloc(), rt.stdin())?;
     let mut run = Run::new(rt.alloc());
-    for line in list.split('\n') {
-        run.take(&rt, line)?;
+    for text in list.split('\n') {
+        run.take(&rt, text)?;
     }
     run.print(&rt)
 }

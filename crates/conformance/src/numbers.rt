@@ -3,7 +3,7 @@ use crate::answer::{Answer, Outcome, Value, answered};
 use crate::case::{Case, LIST};
 use crate::lent;
 use crate::lent::{Element, is_filled};
-use crate::line::{LineError, Words, bits, count, decimal, float};
+use crate::line::{Line, LineError, bits, count, decimal, float};
 use std::num::f32_to_bits_with_nan;
 use types::Quality;
 
@@ -18,16 +18,17 @@ pub enum Calculation {
 
 impl Calculation {
     // The calculation that a line's first word names, if it does, with its arguments.
-    pub fn parse(word: &str, words: &mut Words) -> Result<Option<Calculation>, LineError> {
-        Ok(Some(match word {
-            "is_good" => Calculation::IsGood(bits(words.next())?),
-            "value_of" => Calculation::ValueOf(count(words.next())?, float(words.next())?),
-            "count_of" => Calculation::CountOf(float(words.next())?, float(words.next())?),
-            "nanoseconds" => Calculation::Nanoseconds(decimal(words.next())?),
+    pub fn parse(line: &mut Line) -> Result<Option<Calculation>, LineError> {
+        Ok(Some(match line.name {
+            "is_good" => Calculation::IsGood(bits(line.next())?),
+            "value_of" => Calculation::ValueOf(count(line.next())?, float(line.next())?),
+            "count_of" => Calculation::CountOf(float(line.next())?, float(line.next())?),
+            "nanoseconds" => Calculation::Nanoseconds(decimal(line.next())?),
             _ => return Ok(None),
         }))
     }
 
+    // No From: it is a call, and what it answers is not the calculation in another form.
     pub fn make(self) -> Answer {
         match self {
             Calculation::IsGood(word) => {

@@ -3,7 +3,7 @@ use crate::answer::{Answer, Outcome, answered};
 use crate::case::{Case, LIST};
 use crate::description::Description;
 use crate::lent::{Element, is_filled};
-use crate::line::{LineError, Words, bits, decimal, is_fixed};
+use crate::line::{Line, LineError, bits, decimal, is_fixed};
 use crate::{description, lent, sets};
 
 // How a frame is read.
@@ -22,15 +22,15 @@ pub enum Reading {
 
 impl Reading {
     // The reading that a line's first word names, if it does, with its argument.
-    pub fn parse(word: &str, words: &mut Words) -> Result<Option<Reading>, LineError> {
-        Ok(Some(match word {
+    pub fn parse(line: &mut Line) -> Result<Option<Reading>, LineError> {
+        Ok(Some(match line.name {
             "read" => Reading::Ordinary,
             "read_strict" => Reading::Strict {
-                is_fixed: is_fixed(words.next())?,
+                is_fixed: is_fixed(line.next())?,
             },
             "read_checked" => Reading::Checked,
-            "read_granted" => Reading::Granted(bits(words.next())?),
-            "decode" => Reading::Decode(decimal(words.next())?),
+            "read_granted" => Reading::Granted(bits(line.next())?),
+            "decode" => Reading::Decode(decimal(line.next())?),
             "header" => Reading::Header,
             "read_by_sets" => Reading::BySets,
             _ => return Ok(None),
@@ -119,6 +119,7 @@ fn without_header(given: &Description) -> Description {
     description
 }
 
+// One match: each call has parameters of its own, as in the C interface.
 fn call(
     reading: Reading,
     case: &Case,

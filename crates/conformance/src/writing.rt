@@ -3,8 +3,7 @@ use crate::answer::{Answer, Outcome, Value, answered};
 use crate::case::{BUFFER, Case};
 use crate::lent;
 use crate::lent::{Element, is_filled};
-use crate::line::{LineError, Words, bits, decimal, is_fixed, octets, tag};
-use std::alloc::Global;
+use crate::line::{Line, LineError, decimal, is_fixed, tag};
 
 // What is written.
 #[derive(Drop)]
@@ -20,25 +19,19 @@ pub enum Writing {
 
 impl Writing {
     // What a line's first word names, if it is written, with its arguments.
-    pub fn parse(
-        alloc: Global,
-        word: &str,
-        words: &mut Words,
-    ) -> Result<Option<Writing>, LineError> {
-        Ok(Some(match word {
+    pub fn parse(line: &mut Line) -> Result<Option<Writing>, LineError> {
+        Ok(Some(match line.name {
             "write" => Writing::Counts {
-                is_fixed: is_fixed(words.next())?,
+                is_fixed: is_fixed(line.next())?,
             },
             "write_values" => Writing::Values {
-                is_fixed: is_fixed(words.next())?,
+                is_fixed: is_fixed(line.next())?,
             },
-            "tag_length" => Writing::TagLength(tag(words.next())?, decimal(words.next())?),
+            "tag_length" => Writing::TagLength(tag(line.next())?, decimal(line.next())?),
             "unsigned_integer" => {
-                Writing::UnsignedInteger(tag(words.next())?, decimal(words.next())?)
+                Writing::UnsignedInteger(tag(line.next())?, decimal(line.next())?)
             }
-            "octet_string" => {
-                Writing::OctetString(tag(words.next())?, octets(alloc, words.next())?)
-            }
+            "octet_string" => Writing::OctetString(tag(line.next())?, line.octets()?),
             _ => return Ok(None),
         }))
     }
@@ -54,6 +47,7 @@ impl Writing {
         Outcome { answer, is_right }
     }
 
+    // One match: each call has parameters of its own.
     fn call(&self, case: &Case, out: &mut [u8]) -> Answer {
         match self {
             Writing::Counts { is_fixed } => frame(*is_fixed, case, out),

@@ -4,7 +4,7 @@
 use crate::Frame;
 use crate::draw::{below, draw};
 use decode_smv::samples::signed;
-use rt_services::{EthernetHeader, Presence, SavAsdu, SavDataSetConfig, SavPdu, Vlan};
+use rt_services::{EthernetHeader, Presence, Refusal, SavAsdu, SavDataSetConfig, SavPdu, Vlan};
 use std::array;
 
 fn header(k: u32) -> EthernetHeader {
@@ -23,17 +23,11 @@ fn header(k: u32) -> EthernetHeader {
 }
 
 fn presence(k: u32, place: u32) -> Presence {
-    if below(k, place, 2) == 0 {
-        return Presence::Absent;
-    }
-    Presence::Present
+    Presence::from(below(k, place, 2) == 1)
 }
 
 fn optional(k: u32, place: u32) -> Option<u16> {
-    if below(k, place, 2) == 0 {
-        return None;
-    }
-    Some(0x1234)
+    (below(k, place, 2) == 1).then_some(0x1234)
 }
 
 // Every ASDU of a frame is the same but for its samples.
@@ -82,13 +76,14 @@ fn sample(mask: u32, channels: u32, element: u32, shown: u32, hidden: u32) -> u3
     draw(hidden, element)
 }
 
-// The frame of description k, with shown samples of k and hidden ones of another stream.
-pub fn write(k: u32, channels: u32, mask: u32, hidden: u32) -> Frame {
+// The frame of description k, with shown samples of k and hidden ones of another stream; or the
+// writer's refusal.
+pub fn write(k: u32, channels: u32, mask: u32, hidden: u32) -> Result<Frame, Refusal> {
     let samples: [u32; SavDataSetConfig::MAX_SAMPLES] = array::from_fn(|i| sample(
         mask, channels, i as u32, k, hidden,
     ));
     let mut octets = [0; SavPdu::MAX_FRAME];
-    let written = encode_smv::encode_smv(
+    let size = encode_smv::encode_smv(
         header(k),
         pdu(k, channels),
         channels as usize,
@@ -96,11 +91,8 @@ pub fn write(k: u32, channels: u32, mask: u32, hidden: u32) -> Frame {
         &samples.map(signed),
         &samples.map(|x| x % SavAsdu::QUALITY_LIMIT),
         &mut octets,
-    );
-    Frame {
-        octets,
-        size: written.unwrap_or(0),
-    }
+    )?;
+    Ok(Frame { octets, size })
 }
 
 // How many of a frame's n octets are read: all, or some.

@@ -4,11 +4,12 @@ use crate::draw::{below, draw};
 use crate::readings::reading;
 use crate::walk::{Walked, walk};
 use crate::{Arrays, Frame, Reading, frames};
-use rt_services::{Reason, SavDataSetConfig, SavPdu};
+use rt_services::{Reason, Refusal, SavDataSetConfig};
 
 // How a frame is answered. Both accept it, with the same in the arrays, where every length fits; checked
 // reading refuses it 13 in the first ASDU, or in a later one, where ordinary reading accepts it; both
-// refuse it with one number and place; or any other way. A refusal leaves the arrays.
+// refuse it with one number and place; or any other way, or the writer refuses it. A refusal leaves the
+// arrays.
 #[derive(Clone, Copy)]
 pub enum Class {
     Accepted,
@@ -33,30 +34,29 @@ fn expected(ordinary: &Reading, walked: &Walked) -> (Reading, Class) {
 }
 
 // The frame with another octet before a place, where there is one.
-fn change(frame: Frame, place: usize, octet: u8) -> Frame {
-    let mut f = frame;
+fn change(mut frame: Frame, place: usize, octet: u8) -> Frame {
     if let Some(at) = place.checked_sub(1) {
-        if at < SavPdu::MAX_FRAME {
-            f.octets[at] = octet;
+        if let Some(before) = frame.octets.get_mut(at) {
+            *before = octet;
         }
     }
-    f
+    frame
 }
 
 // Frame k: with another octet in any place, or as the last octet of the length before the samples of
 // one of the first four ASDUs, or nowhere; in half of those with another length, in the length before
 // the first samples besides.
-fn changed(k: u32, channels: u32) -> Frame {
-    let frame = frames::write(k, channels, 0xffffff, 0);
+fn changed(k: u32, channels: u32) -> Result<Frame, Refusal> {
+    let frame = frames::write(k, channels, 0xffffff, 0)?;
     let places = walk(frame.first(frame.size), channels as usize).places;
     let octet = (draw(k, 42) / 65536 % 256) as u8;
     let of_length = places[below(k, 41, 4) as usize];
-    match below(k, 40, 6) {
+    Ok(match below(k, 40, 6) {
         0 => change(frame, below(k, 43, 1600) as usize + 1, octet),
         1 => change(frame, of_length, octet),
         2 => change(change(frame, places[0], octet / 2), of_length, octet),
         _ => frame,
-    }
+    })
 }
 
 // The number of channels that is asked for: that of the frame, or another.
@@ -79,7 +79,9 @@ fn room(k: u32) -> usize {
 // Frame k.
 pub fn answer(k: u32) -> Class {
     let channels = below(k, 1, 25);
-    let frame = changed(k, channels);
+    let Ok(frame) = changed(k, channels) else {
+        return Class::Wrong;
+    };
     let s = frame.first(frames::kept(k, frame.size));
     let asked = asked(k, channels);
     let ordinary = reading(room(k), |numbers, octets, counts, words| {

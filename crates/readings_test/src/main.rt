@@ -17,8 +17,8 @@ mod walk;
 use rt_services::{Refusal, SavDataSetConfig, SavPdu};
 use std::io;
 
-// The octets of a frame, and how many they are: none where the writer refuses it. The writer is lent a
-// buffer of fixed length; a Vec would hand an allocator and its error through every function.
+// The octets of a frame, and how many they are. The writer is lent a buffer of fixed length; a Vec would
+// hand an allocator and its error through every function.
 // sets_test has one of another length: a crate for two fields would be longer than they are.
 #[derive(Clone, Copy)]
 pub struct Frame {

@@ -5,7 +5,8 @@ use crate::{Frame, Reading, frames};
 use rt_services::SavDataSetConfig;
 
 // How a pair is answered. Its octets don't differ; or they do, and both frames are accepted, or both
-// refused with one number and place, with the same in the arrays; or they are answered otherwise.
+// refused with one number and place, with the same in the arrays; or they are answered otherwise, or
+// the writer refuses one.
 #[derive(Clone, Copy)]
 pub enum Class {
     Same,
@@ -45,6 +46,9 @@ pub fn answer(k: u32) -> Class {
     let mask = draw(k, 2);
     let one = frames::write(k, channels, mask, draw(k, 6));
     let other = frames::write(k, channels, mask, draw(k, 7));
+    let (Ok(one), Ok(other)) = (one, other) else {
+        return Class::Differ;
+    };
     if one.size != other.size {
         return Class::Differ;
     }

@@ -1,7 +1,7 @@
 // The Rust's answer to a request, and this project's.
 use crate::class::Class;
 use crate::octets::{Field, Octets};
-use rt_services::{Reason, Refusal};
+use rt_services::Refusal;
 
 // Where the Rust panics: by an index, by a range or a copy of another length, by an overflow, or otherwise.
 #[derive(Clone, Copy, PartialEq, Eq)]
@@ -57,7 +57,7 @@ impl<'a> Theirs<'a> {
         }
     }
 
-    // What it answers, where it neither refuses nor panics.
+    // What it answers, where it neither refuses nor panics. Like `Result::ok`, no From.
     pub fn answer(self) -> Option<Octets<'a>> {
         match self {
             Theirs::Answered(octets) => Some(octets),
@@ -75,7 +75,7 @@ pub fn answered(theirs: Octets) -> Option<Class> {
     Some(Class::Answered)
 }
 
-// The class of a refusal that has to be the Rust's too.
+// The class of a refusal that has to be the Rust's too. No From, since it takes both answers.
 pub fn refused(ours: Refusal, theirs: Theirs) -> Option<Class> {
     let Theirs::Refused {
         number,
@@ -95,9 +95,4 @@ pub fn alike(ours: Ours, theirs: Theirs) -> Option<Class> {
         Ok(same) => same.then_some(Class::Answered),
         Err(refusal) => refused(refusal, theirs),
     }
-}
-
-// The class, where ours is refusal 1 at this place.
-pub fn ends_at(ours: Refusal, place: usize, class: Class) -> Option<Class> {
-    (ours == Reason::EndsTooSoon.at(place)).then_some(class)
 }

@@ -56,9 +56,9 @@ pub enum Class {
     BothLossy,
 }
 
-impl Class {
-    fn name(self) -> &'static str {
-        match self {
+impl fmt::Display for Class {
+    fn fmt<W: fmt::Write>(&self, f: &mut fmt::Formatter<W>) -> fmt::Result {
+        f.write_str(match self {
             Class::Answered => "answered alike",
             Class::Refused => "refused alike",
             Class::NotAsked => "the Rust can't be asked",
@@ -103,12 +103,6 @@ impl Class {
             Class::BothLossy => {
                 "answered alike, strict reading accepts it in both forms, text that isn't UTF-8"
             }
-        }
-    }
-}
-
-impl fmt::Display for Class {
-    fn fmt<W: fmt::Write>(&self, f: &mut fmt::Formatter<W>) -> fmt::Result {
-        f.write_str(self.name())
+        })
     }
 }

@@ -127,22 +127,14 @@ fn held<const N: usize>(s: &[u8]) -> [u8; N] {
     held
 }
 
-fn presence(there: bool) -> Presence {
-    if there {
-        Presence::Present
-    } else {
-        Presence::Absent
-    }
-}
-
 impl<'a> Record<'a> {
     fn asdu(self) -> SavAsdu {
         let dat_set = self.dat_set.unwrap_or_default();
         SavAsdu {
             msv_id: held(self.sv_id),
-            dat_set: presence(self.dat_set.is_some()),
+            dat_set: Presence::from(self.dat_set.is_some()),
             dat_set_octets: held(dat_set),
-            refr_tm: presence(self.refr_tm.is_some()),
+            refr_tm: Presence::from(self.refr_tm.is_some()),
             msv_id_len: self.sv_id.len(),
             dat_set_len: dat_set.len(),
             refr_tm_octets: self.refr_tm.unwrap_or_default(),
@@ -152,7 +144,7 @@ impl<'a> Record<'a> {
             conf_rev: self.conf_rev,
             smp_cnt: self.smp_cnt,
             smp_synch: self.smp_synch,
-            gm_identity: presence(self.gm_identity.is_some()),
+            gm_identity: Presence::from(self.gm_identity.is_some()),
         }
     }
 
@@ -183,9 +175,7 @@ impl<'a> Pdu<'a> {
             },
         })
     }
-}
 
-impl<'a> Pdu<'a> {
     // As the writer takes it: the first eight ASDUs, and blank records after them.
     pub fn pdu(self) -> SavPdu {
         let security = self.security.unwrap_or_default();
@@ -199,7 +189,7 @@ impl<'a> Pdu<'a> {
             security_len: security.len(),
             no_asdu: self.no_asdu,
             sim: self.simulated,
-            security: presence(self.security.is_some()),
+            security: Presence::from(self.security.is_some()),
         }
     }
 

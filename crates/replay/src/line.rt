@@ -20,10 +20,11 @@ fn octets_of<'a>(word: &str, buffer: &'a mut [u8; LONGEST]) -> Option<Octets<'a>
     Some(Octets { rest: octets })
 }
 
+// The class of a request. A kind is a letter, as the line has it: an enum would only add a second match of the same kinds.
 fn judge(kind: u8, request: Octets, theirs: Theirs) -> Option<Class> {
     if let Theirs::NotAsked = theirs {
         // Only a description can be one that the Rust can't hold, with a text that isn't UTF-8.
-        return (kind == b'e' || kind == b's').then_some(Class::NotAsked);
+        return matches!(kind, b'e' | b's').then_some(Class::NotAsked);
     }
     match kind {
         b'q' => of_types::quality(request, theirs),
@@ -55,6 +56,7 @@ pub fn class_of(line: &str) -> Option<Class> {
     let [kind] = kind.as_bytes() else {
         return None;
     };
+    // Each word has a buffer of fixed length: a Vec would hand an allocator and its error through.
     let mut asked = [0; LONGEST];
     let mut answered = [0; LONGEST];
     let request = octets_of(request, &mut asked)?;

@@ -55,20 +55,20 @@ impl Tally {
         if class.is_none() {
             self.unexplained = self.unexplained.saturating_add(1);
             if self.unexplained <= SHOWN {
-                rt.write_all(b"unexplained difference: ")?;
-                rt.write_all(&[kind])?;
-                println!(rt; ", line {}", self.lines)?;
+                let kind = char::from(kind);
+                println!(rt; "unexplained difference: {kind}, line {}", self.lines)?;
             }
         }
         Ok(())
     }
 
+    // Nothing else shows these numbers, so a Display would be longer.
     fn print(&self, rt: &impl Print) -> io::Result<()> {
         for ((kind, class), n) in &self.groups {
-            rt.write_all(&[*kind])?;
+            let kind = char::from(*kind);
             match class {
-                Some(class) => println!(rt; " {class}: {n}")?,
-                None => println!(rt; " unexplained: {n}")?,
+                Some(class) => println!(rt; "{kind} {class}: {n}")?,
+                None => println!(rt; "{kind} unexplained: {n}")?,
             }
         }
         println!(rt;
@@ -86,27 +86,11 @@ fn class_of(line: &[u8]) -> Option<Class> {
     line::class_of(std::str::from_utf8(line).ok()?)
 }
 
-// Reads the whole input: the lines that a newline ends.
-fn read_all(
-    reader: &mut impl BufRead,
-    rt: &(impl Print + AllocGlobal),
-    tally: &mut Tally,
-) -> io::Result<()> {
-    let mut line = Vec::new(rt.alloc());
-    for _ in 0..u64::MAX {
-        line.clear();
-        reader.read_until(b'\n', &mut line)?;
-        let Some(text) = line.strip_suffix(b"\n") else {
-            break;
-        };
-        tally.count(rt, text)?;
-    }
-    Ok(())
-}
-
 fn main(rt: HostRuntime) -> io::Result<()> {
     let mut tally = Tally::new(rt.alloc());
-    let mut reader = BufReader::new(rt.alloc(), rt.reader())?;
-    read_all(&mut reader, &rt, &mut tally)?;
+    let reader = BufReader::new(rt.alloc(), rt.reader())?;
+    for line in reader.split(rt.alloc(), b'\n') {
+        tally.count(&rt, &line?)?;
+    }
     tally.print(&rt)
 }

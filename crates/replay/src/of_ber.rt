@@ -1,7 +1,7 @@
 // The kinds t, r, l and u: tag and length, and integers, read and written.
-use crate::answer::{Panic, Theirs, answered, ends_at, refused};
+use crate::answer::{Panic, Theirs, answered, refused};
 use crate::class::Class;
-use crate::octets::Octets;
+use crate::octets::{Field, Octets};
 use ber_decode::{Cursor, Width};
 use rt_services::{Reason, Refusal};
 
@@ -21,31 +21,34 @@ pub fn head(mut request: Octets, theirs: Theirs) -> Option<Class> {
     }
 }
 
-fn width_of(octets: u8) -> Width {
-    match octets {
-        1 => Width::One,
-        2 => Width::Two,
-        _ => Width::Four,
+impl Field for Width {
+    fn of(octets: &mut Octets) -> Option<Width> {
+        match octets.next()? {
+            1u8 => Some(Width::One),
+            2 => Some(Width::Two),
+            4 => Some(Width::Four),
+            _ => None,
+        }
     }
 }
 
 pub fn integer(mut request: Octets, theirs: Theirs) -> Option<Class> {
-    let width = width_of(request.next()?);
+    let width: Width = request.next()?;
     let at: usize = request.next()?;
     let len: usize = request.next()?;
     let s = request.rest;
     match (Cursor { at }).integer(s, width, len) {
-        Err(refusal) => match theirs {
-            // The sum of index and length.
-            Theirs::Panicked(Panic::Overflow) => {
-                if at.checked_add(len).is_some() {
-                    return None;
+        Err(refusal) => {
+            let at_end = refusal == Reason::EndsTooSoon.at(s.len());
+            match theirs {
+                Theirs::Panicked(Panic::Overflow) => {
+                    let overflows = at.checked_add(len).is_none();
+                    (at_end && overflows).then_some(Class::PanicSum)
                 }
-                ends_at(refusal, s.len(), Class::PanicSum)
+                Theirs::Panicked(_) => at_end.then_some(Class::PanicAtEnd),
+                _ => refused(refusal, theirs),
             }
-            Theirs::Panicked(_) => ends_at(refusal, s.len(), Class::PanicAtEnd),
-            _ => refused(refusal, theirs),
-        },
+        }
         Ok((value, next)) => {
             let mut theirs = theirs.answer()?;
             theirs.has(value)?;

@@ -2,13 +2,14 @@
 use crate::answer::{Theirs, answered};
 use crate::class::Class;
 use crate::octets::{Fields, Octets};
-use crate::reading_class;
+use crate::reading_class::{Answers, of_header};
 use rt_services::{
     EthernetHeader, Presence, Reason, Refusal, SavAsdu, SavDataSetConfig, SavPdu, SavRead, Vlan,
 };
 use std::num::f32_to_bits_with_nan;
 
 // The samples of a PDU: the scale factors of its channels, by their bits, and counts and quality words, ASDU by ASDU.
+// Counts and quality words are two arrays, here and below, as every reader and writer is lent them.
 #[derive(Clone, Copy)]
 struct Samples<'a> {
     scales: Fields<'a, u32>,
@@ -48,13 +49,6 @@ fn is_utf8(s: &[u8]) -> bool {
     std::str::from_utf8(s).is_ok()
 }
 
-fn is_present(presence: Presence) -> bool {
-    match presence {
-        Presence::Absent => false,
-        Presence::Present => true,
-    }
-}
-
 fn sv_id(asdu: &SavAsdu) -> &[u8] {
     asdu.msv_id.get(..asdu.msv_id_len).unwrap_or_default()
 }
@@ -67,16 +61,16 @@ fn dat_set(asdu: &SavAsdu) -> &[u8] {
 
 fn has_asdu(theirs: &mut Octets, asdu: &SavAsdu) -> Option<()> {
     is_lossy(theirs.text()?, sv_id(asdu))?;
-    theirs.has(is_present(asdu.dat_set))?;
+    theirs.has(asdu.dat_set == Presence::Present)?;
     is_lossy(theirs.text()?, dat_set(asdu))?;
     theirs.has(asdu.smp_cnt)?;
     theirs.has(asdu.conf_rev)?;
-    theirs.has(is_present(asdu.refr_tm))?;
+    theirs.has(asdu.refr_tm == Presence::Present)?;
     theirs.has(asdu.refr_tm_octets)?;
     theirs.has(asdu.smp_synch)?;
     theirs.has(asdu.smp_rate)?;
     theirs.has(asdu.smp_mod)?;
-    theirs.has(is_present(asdu.gm_identity))?;
+    theirs.has(asdu.gm_identity == Presence::Present)?;
     theirs.has(asdu.gm_identity_octets)
 }
 
@@ -105,7 +99,7 @@ fn has_asdus(theirs: &mut Octets, pdu: &SavPdu, samples: Samples) -> Option<()> 
 fn has_pdu(theirs: &mut Octets, pdu: &SavPdu, samples: Samples) -> Option<()> {
     theirs.has(pdu.sim)?;
     theirs.has(pdu.no_asdu)?;
-    theirs.has(is_present(pdu.security))?;
+    theirs.has(pdu.security == Presence::Present)?;
     if theirs.text()? != pdu.security_octets.get(..pdu.security_len)? {
         return None;
     }
@@ -137,6 +131,7 @@ fn all_utf8(pdu: &SavPdu) -> bool {
 }
 
 // Those that are alike are told apart by whether their texts are UTF-8.
+// The class so far is a value that this and `by_strict` refine, and names no step to run.
 fn by_text(found: Class, pdu: Option<&SavPdu>) -> Class {
     match pdu {
         Some(pdu) if found == Class::Answered && !all_utf8(pdu) => Class::Lossy,
@@ -151,15 +146,6 @@ struct Reading<'a> {
     channels: usize,
     read: Result<SavRead, Refusal>,
     samples: Samples<'a>,
-}
-
-// The class of a reading that strict reading accepts: `utf8`, or `lossy` with text that isn't UTF-8.
-fn strictly(found: Class, utf8: Class, lossy: Class) -> Class {
-    match found {
-        Class::Answered => utf8,
-        Class::Lossy => lossy,
-        _ => found,
-    }
 }
 
 impl<'a> Reading<'a> {
@@ -204,16 +190,19 @@ impl<'a> Reading<'a> {
     fn by_strict(&self, found: Class) -> Option<Class> {
         let shortest = self.is_accepted(false)?;
         let fixed = self.is_accepted(true)?;
-        Some(match (shortest, fixed) {
-            (false, false) => found,
-            (true, false) => strictly(found, Class::Shortest, Class::ShortestLossy),
-            (false, true) => strictly(found, Class::Fixed, Class::FixedLossy),
-            (true, true) => strictly(found, Class::Both, Class::BothLossy),
+        Some(match (found, shortest, fixed) {
+            (Class::Answered, true, false) => Class::Shortest,
+            (Class::Answered, false, true) => Class::Fixed,
+            (Class::Answered, true, true) => Class::Both,
+            (Class::Lossy, true, false) => Class::ShortestLossy,
+            (Class::Lossy, false, true) => Class::FixedLossy,
+            (Class::Lossy, true, true) => Class::BothLossy,
+            _ => found,
         })
     }
 }
 
-pub fn frame(mut request: Octets, theirs: Theirs) -> Option<Class> {
+pub fn frame<'a>(mut request: Octets<'a>, theirs: Theirs<'a>) -> Option<Class> {
     let channels: u8 = request.next()?;
     let channels = channels as usize;
     let scales = request.fields(channels)?;
@@ -227,7 +216,13 @@ pub fn frame(mut request: Octets, theirs: Theirs) -> Option<Class> {
         qualities: &qualities,
     };
     let ours = read.map(|read| answers(theirs, Some(read.header), &read.pdu, samples).is_some());
-    let found = reading_class::class_of_frame(s, channels, ours, theirs)?;
+    let both = Answers {
+        s,
+        channels,
+        ours,
+        theirs,
+    };
+    let found = both.class_of_frame()?;
     let pdu = read.as_ref().ok().map(|read| &read.pdu);
     let reading = Reading {
         s,
@@ -238,7 +233,8 @@ pub fn frame(mut request: Octets, theirs: Theirs) -> Option<Class> {
     reading.by_strict(by_text(found, pdu))
 }
 
-pub fn pdu(mut request: Octets, theirs: Theirs) -> Option<Class> {
+// Beside `frame`: one function of both would be told which reader to call, and what stands in the request.
+pub fn pdu<'a>(mut request: Octets<'a>, theirs: Theirs<'a>) -> Option<Class> {
     let start = request.next()?;
     let channels: u8 = request.next()?;
     let channels = channels as usize;
@@ -253,13 +249,19 @@ pub fn pdu(mut request: Octets, theirs: Theirs) -> Option<Class> {
         qualities: &qualities,
     };
     let ours = read.map(|pdu| answers(theirs, None, &pdu, samples).is_some());
-    let found = reading_class::class_of_pdu(s, start, channels, ours, theirs)?;
+    let both = Answers {
+        s,
+        channels,
+        ours,
+        theirs,
+    };
+    let found = both.class_of_pdu(start)?;
     Some(by_text(found, read.as_ref().ok()))
 }
 
 pub fn header(request: Octets, theirs: Theirs) -> Option<Class> {
     match ethernet_header::decode_ethernet_header(request.rest) {
-        Err(refusal) => reading_class::of_header(request.rest, refusal, theirs),
+        Err(refusal) => of_header(request.rest, refusal, theirs),
         Ok((header, next)) => {
             let mut theirs = theirs.answer()?;
             has_header(&mut theirs, header)?;

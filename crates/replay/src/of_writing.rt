@@ -16,6 +16,7 @@ fn writes_same(theirs: Theirs, frame: &[u8], n: usize) -> bool {
 }
 
 // Refusal 11, where a count can't be had, comes after 8, 7 for the arrays and 9, and before 10.
+// No From: it is the order of refusals, and holds only where a count can't be had.
 fn out_of_range(written: Result<usize, Refusal>) -> Refusal {
     match written {
         Err(refusal)
@@ -27,7 +28,7 @@ fn out_of_range(written: Result<usize, Refusal>) -> Refusal {
     }
 }
 
-// What the writer of counts answers.
+// What the writer of counts answers. Counts and quality words are two arrays, as the writer is lent them.
 fn of_counts(
     asked: &Description,
     theirs: Theirs,

@@ -1,5 +1,5 @@
 // The class of two answers of a reader. The Rust has no limits, and panics where this project refuses.
-use crate::answer::{Ours, Panic, Theirs, alike, ends_at};
+use crate::answer::{Ours, Panic, Theirs, alike};
 use crate::class::Class;
 use crate::description::{Description, Pdu};
 use rt_services::{Reason, Refusal, SavAsdu, SavDataSetConfig, SavPdu, Vlan};
@@ -93,59 +93,22 @@ fn lacks_refr_tm(s: &[u8], place: usize) -> bool {
 }
 
 // The Rust panics, by an index where an octet is past the end, and by a range or a copy at refrTm and where gmIdentity has
-// more than 8 octets.
+// more than 8 octets. The panic is what the Rust answers, and names no step to run.
 fn panicked(s: &[u8], panic: Panic, ours: Refusal) -> Option<Class> {
-    match ours.reason {
-        Reason::GmIdentityTooLong => {
-            (panic == Panic::Range && is_longer(s, ours.place, 8)).then_some(Class::PanicGmIdentity)
+    match (ours.reason, panic) {
+        (Reason::GmIdentityTooLong, Panic::Range) => {
+            is_longer(s, ours.place, 8).then_some(Class::PanicGmIdentity)
         }
-        Reason::EndsTooSoon => {
-            if panic == Panic::Index {
-                (ours.place == s.len()).then_some(Class::PanicAtEnd)
-            } else {
-                lacks_refr_tm(s, ours.place).then_some(Class::PanicRefrTm)
-            }
+        (Reason::EndsTooSoon, Panic::Index) => {
+            (ours.place == s.len()).then_some(Class::PanicAtEnd)
         }
+        (Reason::EndsTooSoon, _) => lacks_refr_tm(s, ours.place).then_some(Class::PanicRefrTm),
         _ => None,
     }
 }
 
-// The class of the answers for a PDU from start on.
-fn class_of(s: &[u8], start: usize, channels: usize, ours: Ours, theirs: Theirs) -> Option<Class> {
-    let Err(refusal) = ours else {
-        return alike(ours, theirs);
-    };
-    if SavDataSetConfig::MAX_CHANNELS < channels {
-        return (refusal == Reason::TooManyChannels.at(0)).then_some(Class::ManyChannels);
-    }
-    if refusal.reason == Reason::TooLongToHold {
-        return limit(s, start, theirs, refusal.place);
-    }
-    match theirs {
-        Theirs::Panicked(panic) => panicked(s, panic, refusal),
-        _ => alike(ours, theirs),
-    }
-}
-
-// The class of decode_smv's answers, for a PDU from start on. Where only the Rust answers, its PDU has something above a limit.
-pub fn class_of_pdu(
-    s: &[u8],
-    start: usize,
-    channels: usize,
-    ours: Ours,
-    theirs: Theirs,
-) -> Option<Class> {
-    let found = class_of(s, start, channels, ours, theirs)?;
-    if found == Class::LimitAnswered {
-        let mut octets = theirs.answer()?;
-        return Pdu::of(&mut octets)?.is_above_limit().then_some(found);
-    }
-    Some(found)
-}
-
 fn is_tagged(s: &[u8]) -> bool {
-    s.get(12..14)
-        .is_some_and(|tpid| tpid == Vlan::TPID.as_slice())
+    s.get(12..14) == Some(Vlan::TPID.as_slice())
 }
 
 // Whether octets are too few for the header.
@@ -156,21 +119,63 @@ fn lacks_header(s: &[u8]) -> bool {
 // The class where a frame is shorter than its header, which is refused before any limit.
 pub fn of_header(s: &[u8], ours: Refusal, theirs: Theirs) -> Option<Class> {
     match theirs {
-        Theirs::Panicked(_) => ends_at(ours, s.len(), Class::PanicHeader),
+        Theirs::Panicked(_) => {
+            (ours == Reason::EndsTooSoon.at(s.len())).then_some(Class::PanicHeader)
+        }
         _ => None,
     }
 }
 
-// The class of the frame reader's answers.
-pub fn class_of_frame(s: &[u8], channels: usize, ours: Ours, theirs: Theirs) -> Option<Class> {
-    if channels <= SavDataSetConfig::MAX_CHANNELS && lacks_header(s) {
-        return of_header(s, ours.err()?, theirs);
+// The octets and the number of channels that a reader is given, and both answers.
+#[derive(Clone, Copy)]
+pub struct Answers<'a> {
+    pub s: &'a [u8],
+    pub channels: usize,
+    pub ours: Ours,
+    pub theirs: Theirs<'a>,
+}
+
+impl<'a> Answers<'a> {
+    // The class, for a PDU from start on.
+    fn class_from(&self, start: usize) -> Option<Class> {
+        let Err(refusal) = self.ours else {
+            return alike(self.ours, self.theirs);
+        };
+        if SavDataSetConfig::MAX_CHANNELS < self.channels {
+            return (refusal == Reason::TooManyChannels.at(0)).then_some(Class::ManyChannels);
+        }
+        if refusal.reason == Reason::TooLongToHold {
+            return limit(self.s, start, self.theirs, refusal.place);
+        }
+        match self.theirs {
+            Theirs::Panicked(panic) => panicked(self.s, panic, refusal),
+            _ => alike(self.ours, self.theirs),
+        }
     }
-    let start = if is_tagged(s) { 26 } else { 22 };
-    let found = class_of(s, start, channels, ours, theirs)?;
-    if found == Class::LimitAnswered {
-        let description = Description::of(theirs.answer()?)?;
-        return description.pdu.is_above_limit().then_some(found);
+
+    // The class of decode_smv's answers, for a PDU from start on. Where only the Rust answers, its PDU has something above a
+    // limit.
+    pub fn class_of_pdu(&self, start: usize) -> Option<Class> {
+        let found = self.class_from(start)?;
+        if found == Class::LimitAnswered {
+            let mut octets = self.theirs.answer()?;
+            return Pdu::of(&mut octets)?.is_above_limit().then_some(found);
+        }
+        Some(found)
     }
-    Some(found)
+
+    // The class of the frame reader's answers.
+    pub fn class_of_frame(&self) -> Option<Class> {
+        let s = self.s;
+        if self.channels <= SavDataSetConfig::MAX_CHANNELS && lacks_header(s) {
+            return of_header(s, self.ours.err()?, self.theirs);
+        }
+        let start = if is_tagged(s) { 26 } else { 22 };
+        let found = self.class_from(start)?;
+        if found == Class::LimitAnswered {
+            let description = Description::of(self.theirs.answer()?)?;
+            return description.pdu.is_above_limit().then_some(found);
+        }
+        Some(found)
+    }
 }

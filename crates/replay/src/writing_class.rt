@@ -50,7 +50,8 @@ fn header_octets(asked: &Description) -> usize {
     }
 }
 
-// The class of a refusal. The Rust's frame has so many octets, where it answers.
+// The class of a refusal. The Rust's frame has so many octets, where it answers. No From, since it takes the request and
+// both answers.
 fn refused(asked: &Description, ours: Refusal, theirs: Theirs, size: usize) -> Option<Class> {
     if ours.place != 0 {
         return None;
@@ -73,7 +74,7 @@ fn refused(asked: &Description, ours: Refusal, theirs: Theirs, size: usize) -> O
     }
 }
 
-// The class of refusal 9, by what the Rust does.
+// The class of refusal 9, by what the Rust does. No From: the same answers have other classes at other refusals.
 fn outside(theirs: Theirs) -> Option<Class> {
     match theirs {
         Theirs::Answered(_) => Some(Class::OutsideAnswered),

@@ -1,5 +1,6 @@
 // One addition, to a store in a record and to one in two arrays; and the search for a row's set.
 use crate::history;
+use crate::readings::SetBits;
 use rt_services::{Reason, Refusal, SavDataSetConfig};
 use set_store::DataSets;
 
@@ -56,9 +57,6 @@ pub fn find(row: usize, store: &DataSets) -> Option<SavDataSetConfig> {
 
 // Whether what is found for a row is right where so many rows are held.
 pub fn is_right(found: Option<SavDataSetConfig>, row: usize, held: usize) -> bool {
-    let Some(set) = found else {
-        return held <= row;
-    };
-    let expected = history::set_of(row);
-    row < held && set.channels == expected.channels && set.scale_factor == expected.scale_factor
+    let expected = (row < held).then_some(history::set_of(row));
+    found.map(|set| SetBits::from(set)) == expected.map(|set| SetBits::from(set))
 }

@@ -51,6 +51,7 @@ pub fn by_sets(frame: &[u8], room: usize, store: &DataSets) -> Reading {
 }
 
 // A frame by ordinary reading with a set: where it is accepted it is the frame that is written again.
+// Apart from `by_sets`: the two leave other things in the arrays and the set.
 pub fn ordinary(frame: &Frame, room: usize, set: SavDataSetConfig) -> Reading {
     let mut arrays = Arrays::LENT;
     let n = room.min(SavDataSetConfig::MAX_SAMPLES);

@@ -4,7 +4,7 @@
 use crate::draw::{below, draw};
 use crate::{Frame, history};
 use decode_smv::samples::signed;
-use rt_services::{EthernetHeader, Presence, SavAsdu, SavDataSetConfig, SavPdu, Vlan};
+use rt_services::{EthernetHeader, Presence, Refusal, SavAsdu, SavDataSetConfig, SavPdu, Vlan};
 use std::array;
 
 // What is done to a frame after it is written.
@@ -117,17 +117,11 @@ fn header(k: u32) -> EthernetHeader {
 
 // Whether a field is there; it never is in a plain frame.
 fn presence(k: u32, place: u32, plain: bool) -> Presence {
-    if plain || below(k, place, 2) == 0 {
-        return Presence::Absent;
-    }
-    Presence::Present
+    Presence::from(!plain && below(k, place, 2) == 1)
 }
 
 fn optional(k: u32, place: u32, plain: bool) -> Option<u16> {
-    if plain || below(k, place, 2) == 0 {
-        return None;
-    }
-    Some(0x1234)
+    (!plain && below(k, place, 2) == 1).then_some(0x1234)
 }
 
 // An ASDU of stream k. A plain one has no optional field after the confRev, so that what follows is of
@@ -179,8 +173,8 @@ fn pdu(k: u32, row: usize, kind: Kind) -> SavPdu {
     }
 }
 
-// The whole frame in the shortest form; of no octets where the writer refuses it.
-fn whole(k: u32, row: usize, kind: Kind) -> Frame {
+// The whole frame in the shortest form, or the writer's refusal.
+fn whole(k: u32, row: usize, kind: Kind) -> Result<Frame, Refusal> {
     let counts: [i32; SavDataSetConfig::MAX_SAMPLES] = array::from_fn(|i| signed(draw(
         k,
         100 + i as u32,
@@ -188,7 +182,7 @@ fn whole(k: u32, row: usize, kind: Kind) -> Frame {
     let words: [u32; SavDataSetConfig::MAX_SAMPLES] = array::from_fn(|i| draw(k, 400 + i as u32)
         % SavAsdu::QUALITY_LIMIT);
     let mut octets = [77; layout::MAX_OCTETS];
-    let written = encode_smv::encode_smv(
+    let size = encode_smv::encode_smv(
         header(k),
         pdu(k, row, kind),
         history::channels_of(row),
@@ -196,15 +190,12 @@ fn whole(k: u32, row: usize, kind: Kind) -> Frame {
         &counts,
         &words,
         &mut octets,
-    );
-    Frame {
-        octets,
-        size: written.unwrap_or(0),
-    }
+    )?;
+    Ok(Frame { octets, size })
 }
 
 // How many octets of a frame of n are kept. What follows the confRev in a plain frame of one ASDU:
-// smpSynch of one octet, 87, its length, the samples.
+// smpSynch of one octet, 87, its length, the samples. A change is a field of the table of kinds.
 fn kept(k: u32, row: usize, change: Change, n: usize) -> usize {
     let channels = history::channels_of(row);
     let after_revision = 5 + channels / 16 + channels * 8;
@@ -217,10 +208,10 @@ fn kept(k: u32, row: usize, change: Change, n: usize) -> usize {
     }
 }
 
-// Frame f, which is of a row: changed as its kind is, with 77 after its end.
-pub fn write(f: usize, row: usize, kind: Kind) -> Frame {
+// Frame f, which is of a row: changed as its kind is, with 77 after its end; or the writer's refusal.
+pub fn write(f: usize, row: usize, kind: Kind) -> Result<Frame, Refusal> {
     let k = (1000 + f % 1000) as u32;
-    let mut frame = whole(k, row, kind);
+    let mut frame = whole(k, row, kind)?;
     let length = 23 + below(k, 10, 2) as usize * 4;
     if kind.change == Change::BadLength {
         frame.octets[length] = 0x80;
@@ -232,5 +223,5 @@ pub fn write(f: usize, row: usize, kind: Kind) -> Frame {
     let size = kept(k, row, kind.change, frame.size).min(layout::MAX_OCTETS);
     frame.octets[size..].fill(77);
     frame.size = size;
-    frame
+    Ok(frame)
 }

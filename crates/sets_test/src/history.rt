@@ -10,7 +10,7 @@ pub const ADDITIONS: usize = 40;
 
 pub const ROWS: usize = 34;
 
-// The confRev of a row: 0, the powers of two, and 3.
+// The confRev of a row: 0, the powers of two, and 3. No From: a row is a plain number.
 pub fn revision_of(row: usize) -> u32 {
     match row {
         0 => 0,

@@ -19,7 +19,8 @@ use std::alloc::{AllocError, Global};
 use std::io;
 
 // The octets of a frame, with 77 after them, and how many there are. The writer is lent a buffer of
-// fixed length, which is compared whole.
+// fixed length, which is compared whole. readings_test has one of another length: a crate for two fields
+// would be longer than they are.
 #[derive(Clone, Copy)]
 pub struct Frame {
     pub octets: [u8; layout::MAX_OCTETS],
@@ -63,14 +64,18 @@ impl Tally {
     }
 
     // Reads frame f, of a row and kind, into records and into flat arrays. Each answer is held to ordinary
-    // reading with the set of the row, and to the frame's first answer that wasn't 15.
+    // reading with the set of the row, and to the frame's first answer that wasn't 15. A frame that the
+    // writer refuses isn't expected.
     fn read(&mut self, f: usize, row: usize, kind: Kind, store: DataSets, held: usize) {
         let room = if kind.is_short {
             30
         } else {
             SavDataSetConfig::MAX_SAMPLES
         };
-        let frame = frames::write(f, row, kind);
+        let Ok(frame) = frames::write(f, row, kind) else {
+            more(&mut self.by_records.unexpected, true);
+            return;
+        };
         let set = history::set_of(row);
         let got = by_records::by_sets(frame.kept(), room, &store);
         let ordinary = by_records::ordinary(&frame, room, set);
@@ -92,6 +97,7 @@ impl Tally {
         }
     }
 
+    // Printed line by line, here and below: nothing else shows these numbers, so a Display would be longer.
     fn print(&self, rt: &impl Print) -> io::Result<()> {
         self.print_additions(rt)?;
         println!(rt; "readings into records")?;
