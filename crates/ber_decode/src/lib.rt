@@ -38,7 +38,8 @@ pub enum Width {
 }
 
 // The big-endian number of the n octets from at: the library's `from_be_bytes` takes an array of a
-// fixed length, which would be filled first.
+// fixed length, which would be filled first. Place and number here and below, and no slice: the
+// definitions are of these.
 pub fn be(s: &[u8], at: usize, n: usize) -> u32
     requires { (n ≤ 4) × (at + n ≤ length s.now) }
     ensures { result ≡ be_at s.now at n }
