@@ -1,5 +1,7 @@
--- What the loops over a store find, set by set; and what that says of the store as a list.
-use Rattle.std.specs.Prelude.{◌≡◌, List, [], ◌∷◌, Bool, take, drop, get_or, Float, ltb, eqb}
+-- What is found in a store, set by set; and what that says of the store as a list.
+use Rattle.std.specs.Prelude.{◌≡◌, List, [], ◌∷◌, Bool, ◌&&◌, take, drop, get_or, Float, ltb, eqb}
+use Rattle.std.specs.List as list
+use Rattle.std.specs.List.{list_all, range_with_len}
 use Rattle.std.proofs.Math.Path.{refl}
 use Rattle.std.proofs.Common.{sym, ap, ◌∙◌, append-nil, append_assoc, add-one, drop_of_length-le, length-drop, take-suc}
 use Rattle.std.proofs.lemmas.List.{drop-drop, get_or-drop}
@@ -8,12 +10,11 @@ use Rattle.definition.specs.Over.{take_none}
 use Rattle.std.specs.Prelude.{Option, Some, None}
 use Rattle.std.specs.Option.{IfSome}
 use Rattle.std.proofs.Math.Bool.{true, false, cond}
-use Prim.Native.Nat.{ℕ, zero, suc, ◌+◌, ◌-◌, ◌*◌, ◌≤◌, ◌<◌}
+use Prim.Native.Nat.{ℕ, zero, suc, ◌+◌, ◌*◌, ◌≤◌, ◌<◌}
 use native.Mathlib.Omega.{arith}
 use Rattle.std.proofs.Math.ListN.{length, length-append}
 use Rattle.std.proofs.Math.Seq.{sets}
 use Rattle.std.proofs.lemmas.List.Edits.{sets-eq}
-use borrow.Author.Tests.{lt-ltb, le-ltb, eq-eqb, ne_eqb}
 use Rattle.definition.specs.Frame.{and, all}
 use Rattle.definition.specs.Flat.{nth}
 use Rattle.definition.specs.Scaling.{up_to}
@@ -35,23 +36,15 @@ unfolding higher all sets_from above_from
 higher_is k f rev i zero = refl
 higher_is k f rev i (suc m) = ap (and (ltb (nth k (1 + i * 2)) rev)) (higher_is k f rev (suc i) m)
 
--- the loop: what is left leads to the same answer
-module _ (k : List ℕ) (rev n i : ℕ) where
-  pub above_end : n ≤ i → above_from k rev i (n - i) ≡ true
-  unfolding above_from
-  above_end h = let e : n - i ≡ 0 = omega arith in rw e
-
-  module _ (less : i < n) where
-    one_left : n - i ≡ suc (n - (i + 1))
-    one_left = omega arith
-
-    pub above_stop : rev ≤ nth k (1 + i * 2) → above_from k rev i (n - i) ≡ false
-    unfolding above_from and
-    above_stop h = rw (one_left, le-ltb _ _ h)
-
-    pub above_next : nth k (1 + i * 2) < rev → above_from k rev i (n - i) ≡ above_from k rev (i + 1) (n - (i + 1))
-    unfolding above_from and
-    above_next h = rw (one_left, lt-ltb _ _ h, add-one)
+-- as `all` answers of the places of sets
+pub all_above : (k : List ℕ) (rev m i : ℕ) → list_all (λ j. ltb (nth k (1 + j * 2)) rev) (range_with_len i m) ≡ above_from k rev i m
+unfolding above_from and
+all_above k rev zero i = refl
+all_above k rev (suc m) i = rw (add-one i, all_above k rev m (suc i)) (go (ltb (nth k (1 + i * 2)) rev))
+  where
+    go : (t : Bool) → (t && above_from k rev (suc i) m) ≡ cond t (above_from k rev (suc i) m) false
+    go true = refl
+    go false = refl
 
 -- ---- which is under a confRev
 
@@ -63,20 +56,11 @@ position_from k rev i (suc m) = cond (eqb (nth k (1 + i * 2)) rev) (Some i) (pos
 abbrev pub position_in : List ℕ → ℕ → Option ℕ
 position_in k rev = position_from k rev 0 (held_in k)
 
--- the loop
-module _ (k : List ℕ) (rev n i : ℕ) where
-  pub position_end : n ≤ i → position_from k rev i (n - i) ≡ None
-  unfolding position_from
-  position_end h = let e : n - i ≡ 0 = omega arith in rw e
-
-  module _ (less : i < n) where
-    pub position_stop : nth k (1 + i * 2) ≡ rev → position_from k rev i (n - i) ≡ Some i
-    unfolding position_from
-    position_stop h = rw (one_left k rev n i less, eq-eqb _ _ h)
-
-    pub position_next : (nth k (1 + i * 2) ≡ rev → ⊥) → position_from k rev i (n - i) ≡ position_from k rev (i + 1) (n - (i + 1))
-    unfolding position_from
-    position_next h = rw (one_left k rev n i less, ne_eqb _ _ h, add-one)
+-- as `find` answers of the places of sets
+pub first_of : (k : List ℕ) (rev m i : ℕ) → list.find (λ j. eqb (nth k (1 + j * 2)) rev) (range_with_len i m) ≡ position_from k rev i m
+unfolding position_from
+first_of k rev zero i = refl
+first_of k rev (suc m) i = rw (add-one i, first_of k rev m (suc i))
 
 -- the set at a position
 module _ (k : List ℕ) (f : List Float) (rev : ℕ) where

@@ -64,24 +64,14 @@ pub fn held(numbers: &[u32; DataSets::NUMBERS]) -> usize
 fn is_higher(numbers: &[u32; DataSets::NUMBERS], conf_rev: u32) -> bool
     ensures { result ≡ above_all numbers.now conf_rev }
 {
-    for i in 0..held(numbers) {
-        if conf_rev <= numbers[1 + i * 2] {
-            return false;
-        }
-    }
-    true
+    (0..held(numbers)).all(|i| numbers[1 + i * 2] < conf_rev)
 }
 
 // Which of the sets is that under a confRev.
 pub fn position(numbers: &[u32; DataSets::NUMBERS], conf_rev: u32) -> Option<usize>
     ensures { result ≡ position_in numbers.now conf_rev }
 {
-    for i in 0..held(numbers) {
-        if numbers[1 + i * 2] == conf_rev {
-            return Some(i);
-        }
-    }
-    None
+    (0..held(numbers)).find(|i| numbers[1 + *i * 2] == conf_rev)
 }
 
 // How many channels set i has.

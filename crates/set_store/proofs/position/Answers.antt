@@ -1,13 +1,18 @@
--- position: set i is the one, or the answer is that from set i + 1 on.
-use Rattle.std.proofs.Common.{sym, ◌∙◌, arith}
-use Rattle.set_store.specs.Held.{position_end, position_stop, position_next}
+-- position: `find` over the places of the sets held.
+use Rattle.std.specs.Prelude.{◌+◌, ◌*◌, eqb}
+use Rattle.std.proofs.Common.{arith, sym, ◌∙◌, rules, tests}
+use Rattle.std.proofs.lemmas.Iterator.{YieldsList-from_range}
+use Rattle.std.proofs.lemmas.Iterator.Adapters.{option_map_id}
+use Rattle.std.proofs.lemmas.Iterator.Search.{find_from_yields_List}
+use Rattle.definition.specs.Flat.{nth}
+use Rattle.data_sets.specs.DataSets.{held_in}
+use Rattle.set_store.specs.Held.{first_of}
 use Rattle.set_store.proofs.position.Goals as goal
 
-pub returns-then-numbers-i : goal.returns-then-numbers-i
-returns-then-numbers-i c = sym (c.loop-i.invariant ∙ position_stop _ _ _ _ (omega arith) (omega arith))
-
-pub loop-i-preserved : goal.loop-i-preserved
-loop-i-preserved c = c.loop-i.invariant ∙ position_next _ _ _ _ (omega arith) (λ e. omega arith)
-
 pub returns : goal.returns
-returns c = sym (c.loop-i.invariant ∙ position_end _ _ _ _ (omega arith))
+returns c =
+    let k = c.args.numbers.now in
+    let n = held_in k in
+    sym (option_map_id c.find.result)
+    ∙ find_from_yields_List (λ j. eqb (nth k (1 + j * 2)) c.args.conf_rev) _ _ _ c.find.ensures.ran (YieldsList-from_range 0 n n (cc) (omega arith)) (λ x b q h. search (rules, tests))
+    ∙ first_of k c.args.conf_rev n 0
