@@ -1,4 +1,5 @@
 // What a call answers, and what its line says that it has to.
+use crate::lent;
 use crate::line::{Line, LineError, bits, choice, count, decimal};
 use rt_services::Refusal;
 use std::fmt;
@@ -40,9 +41,15 @@ impl fmt::Display for Value {
 
 pub type Answer = Result<Value, Refused>;
 
-// The answer of a function that hands back the number of a refusal or 0, and its place or a number
+// The answer of a call that hands back the number of a refusal or 0, and its place or a number
 // beside accepted, as in the C interface.
-pub fn answered(number: usize, beside: usize) -> Answer {
+pub fn answered<F>(call: F) -> Answer
+where
+    F: FnOnce(&mut usize) -> usize,
+    requires { F.IsAlwaysCallable call }
+{
+    let mut beside = lent::NUMBER;
+    let number = call(&mut beside);
     if number == 0 {
         return Ok(Value::Number(beside));
     }

@@ -1,7 +1,6 @@
 // The calls on numbers alone, and the values of counts.
 use crate::answer::{Answer, Outcome, Value, answered};
 use crate::case::{Case, LIST};
-use crate::lent;
 use crate::lent::{Element, is_filled};
 use crate::line::{Line, LineError, bits, count, decimal, float};
 use std::num::f32_to_bits_with_nan;
@@ -50,15 +49,10 @@ impl Calculation {
 // The values of counts, into as many elements as the case lends.
 pub fn values_of(no_asdu: u16, case: &Case) -> Outcome {
     let mut values = [f32::LENT; LIST];
-    let mut size = lent::NUMBER;
-    let number = hopsickle::hopsickle_values(
-        &case.scales,
-        no_asdu,
-        &case.counts,
-        &mut values[..case.room.counts],
-        &mut size,
-    );
-    let answer = answered(number, size);
+    let out = &mut values[..case.room.counts];
+    let answer = answered(|size| {
+        hopsickle::hopsickle_values(&case.scales, no_asdu, &case.counts, out, size)
+    });
     let is_right = match answer {
         Ok(_) => is_filled(&values, &case.values),
         Err(_) => is_filled(&values, &[]),

@@ -4,7 +4,7 @@ use crate::case::{Case, LIST};
 use crate::description::Description;
 use crate::lent::{Element, is_filled};
 use crate::line::{Line, LineError, bits, decimal, is_fixed};
-use crate::{description, lent, sets};
+use crate::{description, sets};
 
 // How a frame is read.
 #[derive(Clone, Copy)]
@@ -130,25 +130,34 @@ fn call(
 ) -> Outcome {
     let frame = &case.octets;
     let channels = case.channels;
-    let mut place = lent::NUMBER;
-    let number = match reading {
-        Reading::Ordinary => hopsickle::hopsickle_read(
-            frame, channels, numbers, octets, counts, qualities, &mut place,
-        ),
-        Reading::Strict { is_fixed } => hopsickle::hopsickle_read_strict(
-            frame, channels, is_fixed, numbers, octets, counts, qualities, &mut place,
-        ),
-        Reading::Checked => hopsickle::hopsickle_read_checked(
-            frame, channels, numbers, octets, counts, qualities, &mut place,
-        ),
-        Reading::Granted(mask) => hopsickle::hopsickle_read_granted(
-            frame, channels, mask, numbers, octets, counts, qualities, &mut place,
-        ),
-        Reading::Decode(at) => hopsickle::hopsickle_decode(
-            frame, at, channels, numbers, octets, counts, qualities, &mut place,
-        ),
-        Reading::Header => hopsickle::hopsickle_header(frame, numbers, octets, &mut place),
+    let answer = match reading {
+        Reading::Ordinary => answered(|place| {
+            hopsickle::hopsickle_read(frame, channels, numbers, octets, counts, qualities, place)
+        }),
+        Reading::Strict { is_fixed } => answered(|place| {
+            hopsickle::hopsickle_read_strict(
+                frame, channels, is_fixed, numbers, octets, counts, qualities, place,
+            )
+        }),
+        Reading::Checked => answered(|place| {
+            hopsickle::hopsickle_read_checked(
+                frame, channels, numbers, octets, counts, qualities, place,
+            )
+        }),
+        Reading::Granted(mask) => answered(|place| {
+            hopsickle::hopsickle_read_granted(
+                frame, channels, mask, numbers, octets, counts, qualities, place,
+            )
+        }),
+        Reading::Decode(at) => answered(|place| {
+            hopsickle::hopsickle_decode(
+                frame, at, channels, numbers, octets, counts, qualities, place,
+            )
+        }),
+        Reading::Header => {
+            answered(|place| hopsickle::hopsickle_header(frame, numbers, octets, place))
+        }
         Reading::BySets => return sets::read(case, numbers, octets, counts, qualities),
     };
-    Outcome::from(answered(number, place))
+    Outcome::from(answer)
 }

@@ -11,15 +11,9 @@ use rt_services::SavDataSetConfig;
 pub fn add(conf_rev: u32, case: &mut Case) -> Outcome {
     let mut numbers = case.store.numbers;
     let mut scales = case.store.scales;
-    let mut held = lent::NUMBER;
-    let number = hopsickle::hopsickle_sets_add(
-        &mut numbers,
-        &mut scales,
-        conf_rev,
-        &case.scales,
-        &mut held,
-    );
-    let answer = answered(number, held);
+    let answer = answered(|held| {
+        hopsickle::hopsickle_sets_add(&mut numbers, &mut scales, conf_rev, &case.scales, held)
+    });
     if answer.is_ok() {
         case.hold(conf_rev);
     }
@@ -40,20 +34,20 @@ pub fn read(
 ) -> Outcome {
     let mut channels = lent::NUMBER;
     let mut scales = [f32::LENT; SavDataSetConfig::MAX_CHANNELS];
-    let mut place = lent::NUMBER;
-    let number = hopsickle::hopsickle_read_by_sets(
-        &case.octets,
-        &case.store.numbers,
-        &case.store.scales,
-        &mut channels,
-        &mut scales,
-        numbers,
-        octets,
-        counts,
-        qualities,
-        &mut place,
-    );
-    let answer = answered(number, place);
+    let answer = answered(|place| {
+        hopsickle::hopsickle_read_by_sets(
+            &case.octets,
+            &case.store.numbers,
+            &case.store.scales,
+            &mut channels,
+            &mut scales,
+            numbers,
+            octets,
+            counts,
+            qualities,
+            place,
+        )
+    });
     let is_right = match answer {
         Ok(_) => channels == case.scales.len() && is_filled(&scales, &case.factors()),
         Err(_) => channels == lent::NUMBER && is_filled(&scales, &[]),

@@ -1,7 +1,6 @@
 // The calls that write octets into a lent buffer, and the size of a frame.
 use crate::answer::{Answer, Outcome, Value, answered};
 use crate::case::{BUFFER, Case};
-use crate::lent;
 use crate::lent::{Element, is_filled};
 use crate::line::{Line, LineError, decimal, is_fixed, tag};
 
@@ -77,45 +76,45 @@ fn description_octets(case: &Case) -> &[u8] {
 // A frame with the counts. Each call has parameters of its own, as in the C interface, so each has
 // a function here.
 fn frame(is_fixed: bool, case: &Case, out: &mut [u8]) -> Answer {
-    let mut size = lent::NUMBER;
-    let number = hopsickle::hopsickle_write(
-        numbers(case),
-        description_octets(case),
-        case.channels,
-        is_fixed,
-        &case.counts,
-        &case.qualities,
-        out,
-        &mut size,
-    );
-    answered(number, size)
+    answered(|size| {
+        hopsickle::hopsickle_write(
+            numbers(case),
+            description_octets(case),
+            case.channels,
+            is_fixed,
+            &case.counts,
+            &case.qualities,
+            out,
+            size,
+        )
+    })
 }
 
 // A frame with the counts of the values.
 fn frame_of_values(is_fixed: bool, case: &Case, out: &mut [u8]) -> Answer {
-    let mut size = lent::NUMBER;
-    let number = hopsickle::hopsickle_write_values(
-        numbers(case),
-        description_octets(case),
-        &case.scales,
-        is_fixed,
-        &case.values,
-        &case.qualities,
-        out,
-        &mut size,
-    );
-    answered(number, size)
+    answered(|size| {
+        hopsickle::hopsickle_write_values(
+            numbers(case),
+            description_octets(case),
+            &case.scales,
+            is_fixed,
+            &case.values,
+            &case.qualities,
+            out,
+            size,
+        )
+    })
 }
 
 // How many octets a frame is written in.
 pub fn size(is_fixed: bool, case: &Case) -> Answer {
-    let mut size = lent::NUMBER;
-    let number = hopsickle::hopsickle_size(
-        numbers(case),
-        description_octets(case),
-        case.channels,
-        is_fixed,
-        &mut size,
-    );
-    answered(number, size)
+    answered(|size| {
+        hopsickle::hopsickle_size(
+            numbers(case),
+            description_octets(case),
+            case.channels,
+            is_fixed,
+            size,
+        )
+    })
 }
