@@ -21,9 +21,10 @@ impl From<Refusal> for Refused {
     }
 }
 
-// What is answered alone or beside accepted; 1 is yes and 0 is no or nothing.
+// What is answered alone or beside accepted; Number(0) where nothing is.
 #[derive(Clone, Copy, PartialEq, Eq)]
 pub enum Value {
+    YesOrNo(bool),
     Number(usize),
     Bits(u32),
     Count(i32),
@@ -32,6 +33,7 @@ pub enum Value {
 impl fmt::Display for Value {
     fn fmt<W: fmt::Write>(&self, f: &mut fmt::Formatter<W>) -> fmt::Result {
         match self {
+            Value::YesOrNo(is) => write!(f, "{}", if *is { "yes" } else { "no" }),
             Value::Number(n) => write!(f, "{n}"),
             Value::Bits(bits) => write!(f, "{bits:08x}"),
             Value::Count(count) => write!(f, "{count}"),
@@ -104,7 +106,7 @@ impl Form {
     pub fn said(self, mut line: Line) -> Result<Answer, LineError> {
         let word = line.next();
         let answer = match (self, word) {
-            (Form::YesOrNo, _) => Ok(Value::Number(usize::from(choice(word, "no", "yes")?))),
+            (Form::YesOrNo, _) => Ok(Value::YesOrNo(choice(word, "no", "yes")?)),
             (Form::Bits, _) => Ok(Value::Bits(bits(word)?)),
             (Form::Number, _) => Ok(Value::Number(decimal(word)?)),
             (Form::Accepted(n), "accepted") => Ok(Value::Number(n)),

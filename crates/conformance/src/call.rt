@@ -69,7 +69,7 @@ impl Call {
             Call::ValuesOf(no_asdu) => values_of(*no_asdu, case),
             Call::IsSmv => {
                 let is_smv = hopsickle::hopsickle_is_smv(&case.octets);
-                Outcome::from(Ok(Value::Number(usize::from(is_smv))))
+                Outcome::from(Ok(Value::YesOrNo(is_smv)))
             }
         }
     }

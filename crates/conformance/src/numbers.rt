@@ -30,9 +30,7 @@ impl Calculation {
     // No From: it is a call, and what it answers is not the calculation in another form.
     pub fn make(self) -> Answer {
         match self {
-            Calculation::IsGood(word) => {
-                Ok(Value::Number(usize::from(Quality::from_sv(word).is_good())))
-            }
+            Calculation::IsGood(word) => Ok(Value::YesOrNo(Quality::from_sv(word).is_good())),
             Calculation::ValueOf(count, scale) => {
                 Ok(Value::Bits(f32_to_bits_with_nan(scaling::value_of(count, scale))))
             }

@@ -5,6 +5,10 @@ use crate::description::Description;
 use crate::lent::{Element, is_filled};
 use crate::line::{Line, LineError, bits, decimal, is_fixed};
 use crate::{description, sets};
+use hopsickle::{
+    hopsickle_decode, hopsickle_header, hopsickle_read, hopsickle_read_checked,
+    hopsickle_read_granted, hopsickle_read_strict,
+};
 
 // How a frame is read.
 #[derive(Clone, Copy)]
@@ -132,31 +136,27 @@ fn call(
     let channels = case.channels;
     let answer = match reading {
         Reading::Ordinary => answered(|place| {
-            hopsickle::hopsickle_read(frame, channels, numbers, octets, counts, qualities, place)
+            hopsickle_read(frame, channels, numbers, octets, counts, qualities, place)
         }),
         Reading::Strict { is_fixed } => answered(|place| {
-            hopsickle::hopsickle_read_strict(
+            hopsickle_read_strict(
                 frame, channels, is_fixed, numbers, octets, counts, qualities, place,
             )
         }),
         Reading::Checked => answered(|place| {
-            hopsickle::hopsickle_read_checked(
-                frame, channels, numbers, octets, counts, qualities, place,
-            )
+            hopsickle_read_checked(frame, channels, numbers, octets, counts, qualities, place)
         }),
         Reading::Granted(mask) => answered(|place| {
-            hopsickle::hopsickle_read_granted(
+            hopsickle_read_granted(
                 frame, channels, mask, numbers, octets, counts, qualities, place,
             )
         }),
         Reading::Decode(at) => answered(|place| {
-            hopsickle::hopsickle_decode(
+            hopsickle_decode(
                 frame, at, channels, numbers, octets, counts, qualities, place,
             )
         }),
-        Reading::Header => {
-            answered(|place| hopsickle::hopsickle_header(frame, numbers, octets, place))
-        }
+        Reading::Header => { answered(|place| hopsickle_header(frame, numbers, octets, place)) }
         Reading::BySets => return sets::read(case, numbers, octets, counts, qualities),
     };
     Outcome::from(answer)

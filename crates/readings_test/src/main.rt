@@ -35,6 +35,7 @@ impl Frame {
 
 // The arrays that a reading is lent.
 // Counts and quality words are apart, as every reading is lent them.
+// sets_test has the same: a crate for these lines would be longer than they are.
 #[derive(Clone, Copy, PartialEq)]
 pub struct Arrays {
     pub numbers: [u32; layout::MAX_NUMBERS],
@@ -65,6 +66,7 @@ const PAIRS: u32 = 150000;
 const FRAMES: u32 = 250000;
 
 fn test_pairs(rt: &impl Print) -> io::Result<()> {
+    // A count for each class, at its place in the enum.
     let mut counts = [0u32; 4];
     for k in 0..PAIRS {
         let count = &mut counts[pair::answer(k) as usize];
@@ -79,6 +81,7 @@ fn test_pairs(rt: &impl Print) -> io::Result<()> {
 }
 
 fn test_frames(rt: &impl Print) -> io::Result<()> {
+    // A count for each class, at its place in the enum.
     let mut counts = [0u32; 5];
     for k in 0..FRAMES {
         let count = &mut counts[lengths::answer(k) as usize];

@@ -5,6 +5,7 @@ use std::num::f32_to_bits_with_nan;
 
 // The numbers and octets of a description, and the samples.
 // Counts and quality words are apart, as every reading is lent them.
+// readings_test has the same: a crate for these lines would be longer than they are.
 #[derive(Clone, Copy, PartialEq)]
 pub struct Arrays {
     pub numbers: [u32; layout::MAX_NUMBERS],
