@@ -30,6 +30,7 @@ pub enum Theirs<'a> {
     Answered(Octets<'a>),
     // After number and place, the buffer of the length writer.
     Refused {
+        // The number as the line has it; ours is compared by Reason::number.
         number: u8,
         place: usize,
         rest: Octets<'a>,

@@ -1,4 +1,5 @@
 // The class of two answers of a reader. The Rust has no limits, and panics where this project refuses.
+// Whether there is a VLAN tag and a whole header is worked out here again, so that the judge doesn't stand on what it judges.
 use crate::answer::{Ours, Panic, Theirs, alike};
 use crate::class::Class;
 use crate::description::{Description, Pdu};

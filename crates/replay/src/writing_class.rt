@@ -1,5 +1,6 @@
 // The class of two answers of the writer or of the size. The Rust has no limits, and its records hold what a description of
 // this project can't.
+// Refusal 9 and the octets of a header are worked out here again, so that the judge doesn't stand on what it judges.
 use crate::answer::{Ours, Theirs};
 use crate::class::Class;
 use crate::description::Description;
