@@ -3,7 +3,8 @@
 // arrays. Nothing is asked of its caller. Arrays are parameters one by one, as in the C interface.
 // `record_agreement` promises the same of the calls that take records.
 // `fixed` is the form of the counters: fixed, or else shortest.
-// A call answers the number of a refusal, or 0 where it accepts, as in the C interface.
+// A call answers the number of a refusal, or 0 where it accepts, as in the C interface. Each call stands
+// with its number and what is beside it, since the contracts speak of each.
 #![tactic(auto)]
 
 ghost use Rattle.std.specs.Prelude.{◌≡◌, ◌*◌, ◌≤◌, length, take, not, Some, IsSomeAnd};

@@ -1,5 +1,6 @@
 // The same of the calls of the static library.
-// They take arrays one by one and answer numbers, as in the C interface.
+// They take arrays one by one and answer numbers, as in the C interface; each call stands with its
+// number and what is beside it, since the contracts speak of each.
 ghost use Rattle.std.specs.Prelude.{◌≡◌, ℕ, ◌*◌, ◌≤◌, length, Some, IsSomeAnd};
 ghost use Rattle.definition.specs.Frame.{Description};
 ghost use Rattle.definition.specs.Answers.{accepted, over};
