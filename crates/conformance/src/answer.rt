@@ -21,7 +21,7 @@ impl From<Refusal> for Refused {
     }
 }
 
-// What is answered alone or beside accepted; Number(0) where nothing is.
+// What is answered alone or beside accepted; Number(0) where nothing is. Yes is printed as 1, and no as 0.
 #[derive(Clone, Copy, PartialEq, Eq)]
 pub enum Value {
     YesOrNo(bool),
@@ -33,7 +33,7 @@ pub enum Value {
 impl fmt::Display for Value {
     fn fmt<W: fmt::Write>(&self, f: &mut fmt::Formatter<W>) -> fmt::Result {
         match self {
-            Value::YesOrNo(is) => write!(f, "{}", if *is { "yes" } else { "no" }),
+            Value::YesOrNo(is) => write!(f, "{}", u8::from(*is)),
             Value::Number(n) => write!(f, "{n}"),
             Value::Bits(bits) => write!(f, "{bits:08x}"),
             Value::Count(count) => write!(f, "{count}"),
@@ -91,10 +91,10 @@ pub enum Form {
     Accepted(usize),
 }
 
-// The refusal that the next words say. The list has refusals by number, from 1 on.
-fn refusal(line: &mut Line) -> Result<Refused, LineError> {
+// The refusal that the words left of a line say. The list has refusals by number, from 1 on.
+fn refusal(mut line: Line) -> Result<Refused, LineError> {
     let number = decimal(line.next())?;
-    let place = decimal(line.next())?;
+    let place = decimal(line.left())?;
     if number == 0 {
         return Err(LineError::NotUnderstood);
     }
@@ -103,19 +103,21 @@ fn refusal(line: &mut Line) -> Result<Refused, LineError> {
 
 impl Form {
     // The answer that the words left of a line say.
-    pub fn said(self, mut line: Line) -> Result<Answer, LineError> {
-        let word = line.next();
-        let answer = match (self, word) {
-            (Form::YesOrNo, _) => Ok(Value::YesOrNo(choice(word, "no", "yes")?)),
-            (Form::Bits, _) => Ok(Value::Bits(bits(word)?)),
-            (Form::Number, _) => Ok(Value::Number(decimal(word)?)),
-            (Form::Accepted(n), "accepted") => Ok(Value::Number(n)),
-            (Form::AcceptedNumber, "accepted") => Ok(Value::Number(decimal(line.next())?)),
-            (Form::AcceptedCount, "accepted") => Ok(Value::Count(count(line.next())?)),
-            (_, "refused") => Err(refusal(&mut line)?),
+    pub fn said(self, line: Line) -> Result<Answer, LineError> {
+        let mut more = line;
+        let word = more.next();
+        Ok(match (self, word) {
+            (Form::YesOrNo, _) => Ok(Value::YesOrNo(choice(line.left(), "no", "yes")?)),
+            (Form::Bits, _) => Ok(Value::Bits(bits(line.left())?)),
+            (Form::Number, _) => Ok(Value::Number(decimal(line.left())?)),
+            (Form::Accepted(n), "accepted") => {
+                more.end()?;
+                Ok(Value::Number(n))
+            }
+            (Form::AcceptedNumber, "accepted") => Ok(Value::Number(decimal(more.left())?)),
+            (Form::AcceptedCount, "accepted") => Ok(Value::Count(count(more.left())?)),
+            (_, "refused") => Err(refusal(more)?),
             _ => return Err(LineError::NotUnderstood),
-        };
-        line.end()?;
-        Ok(answer)
+        })
     }
 }

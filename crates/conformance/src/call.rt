@@ -1,6 +1,6 @@
 // The calls that lines name.
 use crate::answer::{Form, Outcome, Value};
-use crate::case::{BUFFER, Case};
+use crate::case::{Case, LONGEST};
 use crate::line::{Line, LineError, decimal, is_fixed};
 use crate::numbers::{Calculation, values_of};
 use crate::reading::Reading;
@@ -19,12 +19,12 @@ pub enum Call {
 }
 
 impl Call {
-    // The call that a line's first word names, if it does, with its arguments.
-    pub fn parse(line: &mut Line) -> Result<Option<Call>, LineError> {
+    // The call that a line's first word names, if it does, with its arguments; octets are put into the case.
+    pub fn parse(line: &mut Line, case: &mut Case) -> Result<Option<Call>, LineError> {
         if let Some(reading) = Reading::parse(line)? {
             return Ok(Some(Call::Read(reading)));
         }
-        if let Some(writing) = Writing::parse(line)? {
+        if let Some(writing) = Writing::parse(line, case)? {
             return Ok(Some(Call::Write(writing)));
         }
         if let Some(calculation) = Calculation::parse(line)? {
@@ -46,20 +46,20 @@ impl Call {
         match self {
             Call::Read(Reading::Header) => Form::AcceptedNumber,
             Call::Read(_) => Form::Accepted(0),
-            Call::Write(_) => Form::Accepted(case.octets.len()),
+            Call::Write(_) => Form::Accepted(case.octets().len()),
             Call::Calculate(Calculation::IsGood(_)) => Form::YesOrNo,
             Call::Calculate(Calculation::ValueOf(..)) => Form::Bits,
             Call::Calculate(Calculation::CountOf(..)) => Form::AcceptedCount,
             Call::Calculate(Calculation::Nanoseconds(_)) => Form::Number,
             Call::SetsAdd(_) => Form::AcceptedNumber,
             Call::Size { .. } => Form::AcceptedNumber,
-            Call::ValuesOf(_) => Form::Accepted(case.values.len()),
+            Call::ValuesOf(_) => Form::Accepted(case.values().len()),
             Call::IsSmv => Form::YesOrNo,
         }
     }
 
     // Makes the call; a writer writes into the buffer. One match: each call has parameters of its own.
-    pub fn make(&self, case: &mut Case, buffer: &mut [u8; BUFFER]) -> Outcome {
+    pub fn make(&self, case: &mut Case, buffer: &mut [u8; LONGEST]) -> Outcome {
         match self {
             Call::Read(reading) => reading.make(case),
             Call::Write(writing) => writing.make(case, buffer),
@@ -68,7 +68,7 @@ impl Call {
             Call::Size { is_fixed } => Outcome::from(size(*is_fixed, case)),
             Call::ValuesOf(no_asdu) => values_of(*no_asdu, case),
             Call::IsSmv => {
-                let is_smv = hopsickle::hopsickle_is_smv(&case.octets);
+                let is_smv = hopsickle::hopsickle_is_smv(case.octets());
                 Outcome::from(Ok(Value::YesOrNo(is_smv)))
             }
         }

@@ -1,23 +1,21 @@
 // What the lines of a case give.
-ghost use Rattle.std.specs.Prelude.{◌≤◌};
-ghost use Rattle.conformance.specs.declared.case.TheConstants.{LIST, BUFFER};
-ghost use Rattle.conformance.specs.declared.description.TheConstants.{NUMBERS, OCTETS};
-
+// A line that isn't understood may have put octets or items before its fault, as the format says, so each is
+// put into an array of the most that there can be, with its length beside it.
 use crate::description;
 use crate::description::Description;
-use crate::line::{Line, LineError, at_most, count, decimal, float};
+use crate::line::{Line, LineError, count, decimal, float};
 use rt_services::{SavDataSetConfig, SavPdu};
 use set_store::DataSets;
-use std::alloc::Global;
 
 // Elements that a lent array of samples, values or scale factors can have.
 pub const LIST: usize = 256;
 
-// Octets that a lent buffer can have.
-pub const BUFFER: usize = 4096;
+// Octets that are read or written, and that a lent buffer can have.
+pub const LONGEST: usize = 4096;
 
-// How many elements the arrays have that a call is lent: the buffer of a writer; counts or values, and
-// quality words; the numbers and the octets of the description.
+// How many elements the arrays have that a call is lent, as the lines say: the buffer of a writer; counts
+// or values, and quality words; the numbers and the octets of the description. Where that is more than there
+// can be, all are lent.
 #[derive(Clone, Copy)]
 pub struct Room {
     pub buffer: usize,
@@ -25,69 +23,118 @@ pub struct Room {
     pub qualities: usize,
     pub numbers: usize,
     pub octets: usize,
-    ghost buffer_fits: { buffer ≤ BUFFER },
-    ghost counts_fit: { counts ≤ LIST },
-    ghost qualities_fit: { qualities ≤ LIST },
-    ghost numbers_fit: { numbers ≤ NUMBERS },
-    ghost octets_fit: { octets ≤ OCTETS },
 }
 
-#[derive(Drop)]
+#[derive(Clone, Copy)]
 pub struct Case {
     pub room: Room,
     pub channels: usize,
-    // The octets that are read, and that a writer has to write.
-    pub octets: Vec<u8>,
-    pub counts: Vec<i32>,
-    pub qualities: Vec<u32>,
-    pub values: Vec<f32>,
-    pub scales: Vec<f32>,
+    // The octets that are read, and that a writer has to write; those of octet_string.
+    octets: [u8; LONGEST],
+    octets_len: usize,
+    pub string: [u8; LONGEST],
+    counts: [i32; LIST],
+    counts_len: usize,
+    qualities: [u32; LIST],
+    qualities_len: usize,
+    values: [f32; LIST],
+    values_len: usize,
+    scales: [f32; LIST],
+    scales_len: usize,
     pub description: Description,
     pub store: DataSets,
 }
 
+// The first n elements; none where there are fewer.
+fn first<T>(elements: &[T], n: usize) -> &[T] {
+    elements.get(..n).unwrap_or_default()
+}
+
 impl Case {
     // What holds without a line: nothing is given, and the store is empty.
-    pub fn new(alloc: Global) -> Case {
+    pub fn new() -> Case {
+        let mut case = Case::before_the_first();
+        case.room = Room {
+            buffer: SavPdu::MAX_FRAME,
+            counts: SavDataSetConfig::MAX_SAMPLES,
+            qualities: SavDataSetConfig::MAX_SAMPLES,
+            numbers: description::NUMBERS,
+            octets: description::OCTETS,
+        };
+        case
+    }
+
+    // The same with nothing lent, as it is before the first case.
+    pub fn before_the_first() -> Case {
         Case {
             room: Room {
-                buffer: SavPdu::MAX_FRAME,
-                counts: SavDataSetConfig::MAX_SAMPLES,
-                qualities: SavDataSetConfig::MAX_SAMPLES,
-                numbers: description::NUMBERS,
-                octets: description::OCTETS,
+                buffer: 0,
+                counts: 0,
+                qualities: 0,
+                numbers: 0,
+                octets: 0,
             },
             channels: 0,
-            octets: Vec::new(alloc),
-            counts: Vec::new(alloc),
-            qualities: Vec::new(alloc),
-            values: Vec::new(alloc),
-            scales: Vec::new(alloc),
+            octets: [0; LONGEST],
+            octets_len: 0,
+            string: [0; LONGEST],
+            counts: [0; LIST],
+            counts_len: 0,
+            qualities: [0; LIST],
+            qualities_len: 0,
+            values: [0.0; LIST],
+            values_len: 0,
+            scales: [0.0; LIST],
+            scales_len: 0,
             description: Description::empty(),
             store: DataSets::empty(),
         }
     }
 
+    pub fn octets(&self) -> &[u8] {
+        first(&self.octets, self.octets_len)
+    }
+
+    pub fn counts(&self) -> &[i32] {
+        first(&self.counts, self.counts_len)
+    }
+
+    pub fn qualities(&self) -> &[u32] {
+        first(&self.qualities, self.qualities_len)
+    }
+
+    pub fn values(&self) -> &[f32] {
+        first(&self.values, self.values_len)
+    }
+
+    pub fn scales(&self) -> &[f32] {
+        first(&self.scales, self.scales_len)
+    }
+
     // Takes a line that gives something.
-    pub fn take(&mut self, mut line: Line) -> Result<(), LineError> {
-        let is_taken = self.take_list(&mut line)?
-            || self.take_room(&mut line)?
-            || self.description.take_number(&mut line)?
-            || self.description.take_octets(&mut line)?
-            || self.description.take_asdu(&mut line)?;
-        if !is_taken {
-            return Err(LineError::NotUnderstood);
+    pub fn take(&mut self, line: Line) -> Result<(), LineError> {
+        let is_taken = self.take_list(line)?
+            || self.take_room(line)?
+            || self.description.take_number(line)?
+            || self.description.take_octets(line)?
+            || self.description.take_asdu_number(line)?
+            || self.description.take_asdu_octets(line)?;
+        if is_taken {
+            Ok(())
+        } else {
+            Err(LineError::NotUnderstood)
         }
-        line.end()
     }
 
     // Takes a line of a list, if it is one.
-    fn take_list(&mut self, line: &mut Line) -> Result<bool, LineError> {
+    fn take_list(&mut self, line: Line) -> Result<bool, LineError> {
         match line.name {
-            "counts" => self.counts = line.list(count)?,
-            "qualities" => self.qualities = line.list(|text| decimal(text))?,
-            "values" => self.values = line.list(float)?,
-            "scales" => self.scales = line.list(float)?,
+            "counts" => self.counts_len = line.list(&mut self.counts, count)?,
+            "qualities" => {
+                self.qualities_len = line.list(&mut self.qualities, |text| decimal(text))?;
+            }
+            "values" => self.values_len = line.list(&mut self.values, float)?,
+            "scales" => self.scales_len = line.list(&mut self.scales, float)?,
             _ => return Ok(false),
         }
         Ok(true)
@@ -95,18 +142,28 @@ impl Case {
 
     // Takes a line of the octets, the channels or how much is lent, if it is one. A match of the format's
     // words: an enum of them would only add a second match.
-    fn take_room(&mut self, line: &mut Line) -> Result<bool, LineError> {
+    fn take_room(&mut self, line: Line) -> Result<bool, LineError> {
         match line.name {
-            "octets" => self.octets = line.octets()?,
-            "channels" => self.channels = decimal::<u32>(line.next())? as usize,
-            "buffer" => self.room.buffer = at_most(BUFFER, line.next())?,
+            "octets" => {
+                let mut line = line;
+                let n = line.octets(&mut self.octets)?;
+                line.end()?;
+                self.octets_len = n;
+            }
+            "channels" => self.channels = number(line)?,
+            "buffer" => {
+                self.room.buffer = number(line)?;
+                at_most(LONGEST, self.room.buffer)?;
+            }
             "room" => {
-                self.room.counts = at_most(LIST, line.next())?;
-                self.room.qualities = at_most(LIST, line.next())?;
+                (self.room.counts, self.room.qualities) = two_numbers(line)?;
+                at_most(LIST, self.room.counts)?;
+                at_most(LIST, self.room.qualities)?;
             }
             "flat" => {
-                self.room.numbers = at_most(description::NUMBERS, line.next())?;
-                self.room.octets = at_most(description::OCTETS, line.next())?;
+                (self.room.numbers, self.room.octets) = two_numbers(line)?;
+                at_most(description::NUMBERS, self.room.numbers)?;
+                at_most(description::OCTETS, self.room.octets)?;
             }
             _ => return Ok(false),
         }
@@ -122,7 +179,7 @@ impl Case {
         }
         self.store.numbers[0] = n as u32 + 1;
         self.store.numbers[1 + 2 * n] = conf_rev;
-        self.store.numbers[2 + 2 * n] = (self.scales.len() % 0x100000000) as u32;
+        self.store.numbers[2 + 2 * n] = (self.scales_len % 0x100000000) as u32;
         let at = n * SavDataSetConfig::MAX_CHANNELS;
         let factors = self.factors();
         self.store.scales[at..at + SavDataSetConfig::MAX_CHANNELS].copy_from_slice(&factors);
@@ -131,8 +188,30 @@ impl Case {
     // The scale factors of a data set, 0 past those that are given.
     pub fn factors(&self) -> [f32; SavDataSetConfig::MAX_CHANNELS] {
         let mut factors = [0.0; SavDataSetConfig::MAX_CHANNELS];
-        let n = factors.len().min(self.scales.len());
-        factors[..n].copy_from_slice(&self.scales[..n]);
+        factors.copy_from_slice(&self.scales[..SavDataSetConfig::MAX_CHANNELS]);
         factors
     }
+}
+
+// The number of 32 bits that a line gives.
+fn number(mut line: Line) -> Result<usize, LineError> {
+    let n: u32 = decimal(line.next())?;
+    line.end()?;
+    Ok(n as usize)
+}
+
+// The two that a line gives.
+fn two_numbers(mut line: Line) -> Result<(usize, usize), LineError> {
+    let a: u32 = decimal(line.next())?;
+    let b: u32 = decimal(line.next())?;
+    line.end()?;
+    Ok((a as usize, b as usize))
+}
+
+// Whether a number that was taken is one that there can be.
+fn at_most(most: usize, n: usize) -> Result<(), LineError> {
+    if most < n {
+        return Err(LineError::NotUnderstood);
+    }
+    Ok(())
 }

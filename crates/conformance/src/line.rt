@@ -1,13 +1,10 @@
 // A line, its words, and what they stand for.
-ghost use Rattle.std.specs.Prelude.{◌≤◌, IfOk};
-
-use hex::FromHexError;
-use std::alloc::{AllocError, AllocFailed, Global};
+use crate::case::LONGEST;
 use std::io;
 use std::num::f32_from_bits_with_nan;
-use std::str::{FromStr, Split};
+use std::str::FromStr;
 
-// Why a line isn't taken: it isn't of the format, or memory or output fails.
+// Why a line isn't taken: it isn't of the format, or output fails.
 #[derive(Debug, Drop)]
 pub enum LineError {
     NotUnderstood,
@@ -20,106 +17,136 @@ impl From<io::Error> for LineError {
     }
 }
 
-impl From<AllocError> for LineError {
-    fn from(e: AllocError) -> LineError {
-        LineError::Io(io::Error::from(e))
-    }
-}
-
-impl<T: Drop> From<AllocFailed<T>> for LineError {
-    fn from(e: AllocFailed<T>) -> LineError {
-        LineError::Io(io::Error::from(e))
-    }
-}
-
-impl From<FromHexError> for LineError {
-    fn from(e: FromHexError) -> LineError {
-        match e {
-            FromHexError::OutOfMemory => LineError::from(AllocError),
-            _ => LineError::NotUnderstood,
-        }
-    }
-}
-
-// A line: its first word; the words that are left of it, with one space between, none at its end; and
-// the allocator of what they stand for.
-#[derive(Drop)]
+// A line: its first word, and what stands after the space behind it.
+#[derive(Clone, Copy)]
 pub struct Line<'a> {
     pub name: &'a str,
-    words: Split<'a, char>,
-    alloc: Global,
+    rest: &'a str,
+}
+
+// A text up to its first space, and what stands after that.
+fn split(text: &str) -> (&str, &str) {
+    text.split_once(' ').unwrap_or((text, ""))
 }
 
 impl<'a> Line<'a> {
-    pub fn new(alloc: Global, text: &'a str) -> Line<'a> {
-        let mut words = text.split(' ');
-        Line {
-            name: words.next().unwrap_or(""),
-            words,
-            alloc,
-        }
+    pub fn new(text: &'a str) -> Line<'a> {
+        let (name, rest) = split(text);
+        Line { name, rest }
     }
 
-    // Whether the line ends here.
-    pub fn end(mut self) -> Result<(), LineError> {
-        match self.words.next() {
-            Some(_) => Err(LineError::NotUnderstood),
-            None => Ok(()),
+    // Whether nothing is left; a space after the last word may stand there.
+    pub fn is_end(&self) -> bool {
+        self.rest.is_empty()
+    }
+
+    pub fn end(self) -> Result<(), LineError> {
+        if self.is_end() {
+            Ok(())
+        } else {
+            Err(LineError::NotUnderstood)
         }
     }
 
     // The next word; an empty one at the end.
     pub fn next(&mut self) -> &'a str {
-        self.words.next().unwrap_or("")
+        let (word, rest) = split(self.rest);
+        self.rest = rest;
+        word
     }
 
-    // The octets that the next word stands for.
-    pub fn octets(&mut self) -> Result<Vec<u8>, LineError> {
+    // All that is left.
+    pub fn left(self) -> &'a str {
+        self.rest
+    }
+
+    // Puts the octets that the next word stands for into a field, as many as it has room for, with zeros
+    // after them; and answers how many they are. Those before a wrong digit are put too.
+    pub fn octets(&mut self, field: &mut [u8]) -> Result<usize, LineError> {
         let text = self.next();
         if text == "-" {
-            return Ok(Vec::new(self.alloc));
+            field.fill(0);
+            return Ok(0);
         }
-        if text.is_empty() || !is_hexadecimal(text) {
+        if text.is_empty() {
             return Err(LineError::NotUnderstood);
         }
-        Ok(hex::decode(self.alloc, text)?)
+        for (i, digits) in text.as_bytes().chunks(2).take(LONGEST).enumerate() {
+            let octet = octet_of(digits).ok_or(LineError::NotUnderstood)?;
+            if let Some(place) = field.get_mut(i) {
+                *place = octet;
+            }
+        }
+        let n = text.len() - text.len() / 2;
+        if let Some(rest) = field.get_mut(n..) {
+            rest.fill(0);
+        }
+        if LONGEST < n {
+            return Err(LineError::NotUnderstood);
+        }
+        Ok(n)
     }
 
-    // What each word that is left stands for.
-    pub fn list<T: Drop, F: Fn(&str) -> Result<T, LineError>>(
-        &mut self,
+    // Puts what each word that is left stands for into a list, with zeros after them; and answers how many
+    // they are. A wrong word leaves its item as it was.
+    pub fn list<T: Default + Copy, F: Fn(&str) -> Result<T, LineError>>(
+        mut self,
+        list: &mut [T],
         item: F,
-    ) -> Result<Vec<T>, LineError>
+    ) -> Result<usize, LineError>
         requires { F.IsAlwaysCallable item }
     {
-        let mut items = Vec::new(self.alloc);
-        for word in self.words.by_ref() {
-            items.push(item(word)?)?;
+        let mut n: usize = 0;
+        let mut is_right = true;
+        for place in list.iter_mut() {
+            if self.is_end() {
+                *place = T::default();
+                continue;
+            }
+            n = n.saturating_add(1);
+            match item(self.next()) {
+                Ok(found) => *place = found,
+                Err(_) => is_right = false,
+            }
         }
-        Ok(items)
+        self.end()?;
+        if !is_right {
+            return Err(LineError::NotUnderstood);
+        }
+        Ok(n)
     }
 }
+
+// The value of a hexadecimal digit, none of them a capital letter.
+fn digit(c: u8) -> Option<u8> {
+    match c {
+        b'0'..=b'9' => Some(c - b'0'),
+        b'a'..=b'f' => Some(c - b'a' + 10),
+        _ => None,
+    }
+}
+
+// The octet of two digits.
+fn octet_of(digits: &[u8]) -> Option<u8> {
+    let [high, low] = digits else {
+        return None;
+    };
+    digit(*high)?.checked_mul(16)?.checked_add(digit(*low)?)
+}
+
+// The one number of 64 bits that the list can't say.
+const UNSAYABLE: &str = "9999999999999999999";
 
 // A decimal number without a sign.
 pub fn decimal<T: FromStr>(text: &str) -> Result<T, LineError>
 where
     T::Err: Drop,
 {
-    if !text.bytes().all(|b| b.is_ascii_digit()) {
+    let is_number = text.bytes().all(|b| b.is_ascii_digit());
+    if !is_number || text.trim_start_matches('0') == UNSAYABLE {
         return Err(LineError::NotUnderstood);
     }
     text.parse().map_err(|_| LineError::NotUnderstood)
-}
-
-// A decimal number, at most so large.
-pub fn at_most(most: usize, text: &str) -> Result<usize, LineError>
-    ensures { IfOk result (λ n. n ≤ most) }
-{
-    let n = decimal(text)?;
-    if most < n {
-        return Err(LineError::NotUnderstood);
-    }
-    Ok(n)
 }
 
 pub fn count(text: &str) -> Result<i32, LineError> {
@@ -130,14 +157,9 @@ pub fn count(text: &str) -> Result<i32, LineError> {
     text.parse().map_err(|_| LineError::NotUnderstood)
 }
 
-// Whether a text has hexadecimal digits alone, none of them a capital letter.
-fn is_hexadecimal(text: &str) -> bool {
-    text.bytes().all(|b| matches!(b, b'0'..=b'9' | b'a'..=b'f'))
-}
-
 // A hexadecimal number of 32 bits.
 pub fn bits(text: &str) -> Result<u32, LineError> {
-    if !is_hexadecimal(text) {
+    if !text.bytes().all(|c| digit(c).is_some()) {
         return Err(LineError::NotUnderstood);
     }
     u32::from_str_radix(text, 16).map_err(|_| LineError::NotUnderstood)

@@ -1,5 +1,6 @@
 // Reads a conformance list from standard input, makes every call that it names, and prints how many
-// answers differ from what the list says. The list's format stands in its first lines.
+// answers differ from what the list says. The list's format stands in its first lines. An input that fills
+// its space counts as a difference more.
 #![tactic(auto)]
 
 mod answer;
@@ -15,10 +16,13 @@ mod writing;
 
 use crate::answer::{Answer, Value};
 use crate::call::Call;
-use crate::case::{BUFFER, Case};
+use crate::case::{Case, LONGEST};
 use crate::line::{Line, LineError};
-use std::alloc::Global;
 use std::io;
+use std::io::Read;
+
+// Octets of a list, one more than it can have.
+const INPUT: u64 = 1048576;
 
 // Differences that are printed.
 const SHOWN: usize = 20;
@@ -31,20 +35,18 @@ struct Run {
     answers: usize,
     differ: usize,
     case: Case,
-    buffer: [u8; BUFFER],
-    alloc: Global,
+    buffer: [u8; LONGEST],
 }
 
 impl Run {
-    fn new(alloc: Global) -> Run {
+    fn new() -> Run {
         Run {
             lines: 0,
             cases: 0,
             answers: 0,
             differ: 0,
-            case: Case::new(alloc),
-            buffer: [0; BUFFER],
-            alloc,
+            case: Case::before_the_first(),
+            buffer: [0; LONGEST],
         }
     }
 
@@ -54,7 +56,7 @@ impl Run {
         if text.is_empty() || text.starts_with('#') {
             return Ok(());
         }
-        match self.take_line(rt, Line::new(self.alloc, text)) {
+        match self.take_line(rt, Line::new(text)) {
             Ok(()) => Ok(()),
             Err(LineError::Io(e)) => Err(e),
             Err(LineError::NotUnderstood) => self.not_understood(rt),
@@ -64,11 +66,11 @@ impl Run {
     // Takes a line that isn't empty or a comment.
     fn take_line(&mut self, rt: &impl Print, mut line: Line) -> Result<(), LineError> {
         if line.name == "case" {
-            self.case = Case::new(self.alloc);
+            self.case = Case::new();
             self.cases = self.cases.saturating_add(1);
             return Ok(());
         }
-        if let Some(call) = Call::parse(&mut line)? {
+        if let Some(call) = Call::parse(&mut line, &mut self.case)? {
             self.take_call(rt, &call, line)?;
             return Ok(());
         }
@@ -107,7 +109,7 @@ impl Run {
     fn print_written(&self, rt: &impl Print, call: &Call, value: Value) -> io::Result<()> {
         if let (Call::Write(_), Value::Number(n)) = (call, value) {
             print!(rt; " ")?;
-            for octet in &self.buffer[..n.min(BUFFER)] {
+            for octet in &self.buffer[..n.min(LONGEST)] {
                 print!(rt; "{octet:02x}")?;
             }
         }
@@ -132,10 +134,21 @@ impl Run {
 }
 
 fn main(rt: HostRuntime) -> io::Result<()> {
-    let list = io::read_to_string(rt.alloc(), rt.stdin())?;
-    let mut run = Run::new(rt.alloc());
-    for text in list.split('\n') {
-        run.take(&rt, text)?;
+    let mut list = Vec::new(rt.alloc());
+    rt.stdin().take(INPUT).read_to_end(&mut list)?;
+    let mut run = Run::new();
+    for line in list.split(|octet| *octet == b'\n') {
+        if let Ok(text) = std::str::from_utf8(line) {
+            run.take(&rt, text)?;
+        } else {
+            // No word of the format has a character that isn't ASCII.
+            let text = String::from_utf8_lossy(rt.alloc(), line)?;
+            run.take(&rt, &text)?;
+        }
+    }
+    if INPUT <= list.len() as u64 {
+        println!(rt; "the list is too long")?;
+        run.differ = run.differ.saturating_add(1);
     }
     run.print(&rt)
 }

@@ -47,12 +47,12 @@ impl Calculation {
 // The values of counts, into as many elements as the case lends.
 pub fn values_of(no_asdu: u16, case: &Case) -> Outcome {
     let mut values = [f32::LENT; LIST];
-    let out = &mut values[..case.room.counts];
+    let out = &mut values[..case.room.counts.min(LIST)];
     let answer = answered(|size| {
-        hopsickle::hopsickle_values(&case.scales, no_asdu, &case.counts, out, size)
+        hopsickle::hopsickle_values(case.scales(), no_asdu, case.counts(), out, size)
     });
     let is_right = match answer {
-        Ok(_) => is_filled(&values, &case.values),
+        Ok(_) => is_filled(&values, case.values()),
         Err(_) => is_filled(&values, &[]),
     };
     Outcome { answer, is_right }

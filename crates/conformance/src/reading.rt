@@ -48,10 +48,10 @@ impl Reading {
         let outcome = call(
             self,
             case,
-            &mut lent.numbers[..room.numbers],
-            &mut lent.octets[..room.octets],
-            &mut lent.counts[..room.counts],
-            &mut lent.qualities[..room.qualities],
+            &mut lent.numbers[..room.numbers.min(description::NUMBERS)],
+            &mut lent.octets[..room.octets.min(description::OCTETS)],
+            &mut lent.counts[..room.counts.min(LIST)],
+            &mut lent.qualities[..room.qualities.min(LIST)],
         );
         let is_right = match outcome.answer {
             Ok(_) => lent.is_handed_back(self, case),
@@ -110,8 +110,8 @@ impl Lent {
     fn is_read(&self, description: &Description, case: &Case) -> bool {
         is_filled(&self.numbers, description.given_numbers())
             && is_filled(&self.octets, description.given_octets())
-            && is_filled(&self.counts, &case.counts)
-            && is_filled(&self.qualities, &case.qualities)
+            && is_filled(&self.counts, case.counts())
+            && is_filled(&self.qualities, case.qualities())
     }
 }
 
@@ -132,7 +132,7 @@ fn call(
     counts: &mut [i32],
     qualities: &mut [u32],
 ) -> Outcome {
-    let frame = &case.octets;
+    let frame = case.octets();
     let channels = case.channels;
     let answer = match reading {
         Reading::Ordinary => answered(|place| {

@@ -12,7 +12,7 @@ pub fn add(conf_rev: u32, case: &mut Case) -> Outcome {
     let mut numbers = case.store.numbers;
     let mut scales = case.store.scales;
     let answer = answered(|held| {
-        hopsickle::hopsickle_sets_add(&mut numbers, &mut scales, conf_rev, &case.scales, held)
+        hopsickle::hopsickle_sets_add(&mut numbers, &mut scales, conf_rev, case.scales(), held)
     });
     if answer.is_ok() {
         case.hold(conf_rev);
@@ -36,7 +36,7 @@ pub fn read(
     let mut scales = [f32::LENT; SavDataSetConfig::MAX_CHANNELS];
     let answer = answered(|place| {
         hopsickle::hopsickle_read_by_sets(
-            &case.octets,
+            case.octets(),
             &case.store.numbers,
             &case.store.scales,
             &mut channels,
@@ -49,7 +49,7 @@ pub fn read(
         )
     });
     let is_right = match answer {
-        Ok(_) => channels == case.scales.len() && is_filled(&scales, &case.factors()),
+        Ok(_) => channels == case.scales().len() && is_filled(&scales, &case.factors()),
         Err(_) => channels == lent::NUMBER && is_filled(&scales, &[]),
     };
     Outcome { answer, is_right }

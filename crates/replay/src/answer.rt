@@ -1,6 +1,6 @@
 // The Rust's answer to a request, and this project's.
 use crate::class::Class;
-use crate::octets::{Field, Octets};
+use crate::octets::Octets;
 use rt_services::Refusal;
 
 // Where the Rust panics: by an index, by a range or a copy of another length, by an overflow, or otherwise.
@@ -12,19 +12,22 @@ pub enum Panic {
     Other,
 }
 
-impl Field for Panic {
-    fn of(octets: &mut Octets) -> Option<Panic> {
-        match octets.next()? {
-            1u8 => Some(Panic::Index),
-            2 => Some(Panic::Range),
-            3 => Some(Panic::Overflow),
-            4 => Some(Panic::Other),
-            _ => None,
+impl From<u8> for Panic {
+    fn from(number: u8) -> Panic {
+        match number {
+            1 => Panic::Index,
+            2 => Panic::Range,
+            3 => Panic::Overflow,
+            _ => Panic::Other,
         }
     }
 }
 
-// What the Rust answers, by its status.
+// The octets of the number and the place of a refusal.
+const REFUSAL: usize = 9;
+
+// What the Rust answers, by its status; the status of an answer without octets is 0. What is asked of a refusal or a panic is
+// read with zeros after it, and whether a refusal has its number and place is kept beside them.
 #[derive(Clone, Copy)]
 pub enum Theirs<'a> {
     Answered(Octets<'a>),
@@ -33,29 +36,40 @@ pub enum Theirs<'a> {
         // The number as the line has it; ours is compared by Reason::number.
         number: u8,
         place: usize,
+        is_whole: bool,
         rest: Octets<'a>,
     },
     Panicked(Panic),
     NotAsked,
+    Other,
 }
 
 impl<'a> Theirs<'a> {
-    pub fn of(mut octets: Octets<'a>) -> Option<Theirs<'a>> {
-        match octets.next()? {
-            0u8 => Some(Theirs::Answered(octets)),
-            1 => Some(Theirs::Refused {
-                number: octets.next()?,
-                place: octets.next()?,
-                rest: octets,
-            }),
-            2 => {
-                let panic = octets.next()?;
-                octets.end()?;
-                Some(Theirs::Panicked(panic))
-            }
-            3 => Some(Theirs::NotAsked),
-            _ => None,
+    pub fn of(octets: Octets<'a>) -> Theirs<'a> {
+        let Some((status, answer)) = octets.rest.split_first() else {
+            return Theirs::Answered(octets);
+        };
+        let mut fields = Octets::new(answer).padded();
+        match *status {
+            0 => Theirs::Answered(Octets::new(answer)),
+            1 => Theirs::Refused {
+                number: fields.next().unwrap_or(0),
+                place: fields.next().unwrap_or(0),
+                is_whole: REFUSAL <= answer.len(),
+                rest: Octets::new(fields.rest),
+            },
+            2 => Theirs::Panicked(Panic::from(fields.next().unwrap_or(0))),
+            3 => Theirs::NotAsked,
+            _ => Theirs::Other,
         }
+    }
+
+    // The size that it answers, in four octets.
+    pub fn size(self) -> Option<usize> {
+        let mut octets = self.answer()?;
+        let size: u32 = octets.next()?;
+        octets.end()?;
+        Some(size as usize)
     }
 
     // What it answers, where it neither refuses nor panics. Like `Result::ok`, no From.
@@ -81,13 +95,16 @@ pub fn refused(ours: Refusal, theirs: Theirs) -> Option<Class> {
     let Theirs::Refused {
         number,
         place,
+        is_whole,
         rest,
     } = theirs
     else {
         return None;
     };
     rest.end()?;
-    (number as usize == ours.reason.number() && place == ours.place).then_some(Class::Refused)
+    (is_whole && number as usize == ours.reason.number() && place == ours.place).then_some(
+        Class::Refused,
+    )
 }
 
 // The class of two answers that have to be the same.

@@ -1,7 +1,7 @@
 // Descriptions, of a header and a PDU with its samples, as requests and answers have them.
 ghost use Rattle.std.specs.Iterator.{at_most};
 
-use crate::octets::{Field, Fields, Octets};
+use crate::octets::{Field, Fields, Octets, Text, held};
 use rt_services::{EthernetHeader, Presence, Refusal, SavAsdu, SavDataSetConfig, SavPdu, Vlan};
 use std::num::f32_from_bits_with_nan;
 
@@ -50,8 +50,10 @@ impl Sample {
 // An ASDU record.
 #[derive(Clone, Copy)]
 pub struct Record<'a> {
-    pub sv_id: &'a [u8],
-    pub dat_set: Option<&'a [u8]>,
+    pub sv_id: Text<'a>,
+    // Beside its mark, as a text above its limit is told without it; so is that of security.
+    pub has_dat_set: bool,
+    pub dat_set: Text<'a>,
     pub smp_cnt: u16,
     pub conf_rev: u32,
     pub refr_tm: Option<[u8; 8]>,
@@ -66,7 +68,8 @@ impl<'a> Record<'a> {
     fn of(octets: &mut Octets<'a>) -> Option<Record<'a>> {
         Some(Record {
             sv_id: octets.text()?,
-            dat_set: octets.optional_text()?,
+            has_dat_set: octets.next()?,
+            dat_set: octets.text()?,
             smp_cnt: octets.next()?,
             conf_rev: octets.next()?,
             refr_tm: octets.next()?,
@@ -82,7 +85,8 @@ impl<'a> Record<'a> {
     }
 }
 
-// ASDU records in a row, each whole. No proof is made for code over Fields<Record>, which names two lifetimes.
+// ASDU records in a row, of octets with zeros after them. No proof is made for code over Fields<Record>, which names two
+// lifetimes.
 #[derive(Clone, Copy)]
 pub struct Records<'a> {
     octets: Octets<'a>,
@@ -90,18 +94,6 @@ pub struct Records<'a> {
 }
 
 impl<'a> Records<'a> {
-    // The next n records; None where one isn't there.
-    fn of(octets: &mut Octets<'a>, n: usize) -> Option<Records<'a>> {
-        let records = Records {
-            octets: *octets,
-            left: n,
-        };
-        for _ in 0..n {
-            Record::of(octets)?;
-        }
-        Some(records)
-    }
-
     // How many are left.
     pub fn len(&self) -> usize {
         self.left
@@ -119,24 +111,15 @@ impl<'a> Iterator for Records<'a> {
     }
 }
 
-// The first N octets, and zeros where there are fewer.
-fn held<const N: usize>(s: &[u8]) -> [u8; N] {
-    let mut held = [0; N];
-    let n = s.len().min(N);
-    held[..n].copy_from_slice(&s[..n]);
-    held
-}
-
 impl<'a> Record<'a> {
     fn asdu(self) -> SavAsdu {
-        let dat_set = self.dat_set.unwrap_or_default();
         SavAsdu {
-            msv_id: held(self.sv_id),
-            dat_set: Presence::from(self.dat_set.is_some()),
-            dat_set_octets: held(dat_set),
+            msv_id: held(self.sv_id.octets),
+            dat_set: Presence::from(self.has_dat_set),
+            dat_set_octets: held(self.dat_set.octets),
             refr_tm: Presence::from(self.refr_tm.is_some()),
-            msv_id_len: self.sv_id.len(),
-            dat_set_len: dat_set.len(),
+            msv_id_len: self.sv_id.len,
+            dat_set_len: self.dat_set.len,
             refr_tm_octets: self.refr_tm.unwrap_or_default(),
             gm_identity_octets: self.gm_identity.unwrap_or_default(),
             smp_rate: self.smp_rate,
@@ -150,8 +133,7 @@ impl<'a> Record<'a> {
 
     // Whether a text is above its limit.
     fn has_long_text(self) -> bool {
-        SavAsdu::MAX_TEXT < self.sv_id.len()
-            || SavAsdu::MAX_TEXT < self.dat_set.unwrap_or_default().len()
+        SavAsdu::MAX_TEXT < self.sv_id.len || SavAsdu::MAX_TEXT < self.dat_set.len
     }
 }
 
@@ -159,37 +141,42 @@ impl<'a> Record<'a> {
 pub struct Pdu<'a> {
     pub simulated: bool,
     pub no_asdu: u16,
-    pub security: Option<&'a [u8]>,
+    pub has_security: bool,
+    pub security: Text<'a>,
     pub records: Records<'a>,
 }
 
 impl<'a> Pdu<'a> {
+    // Of octets with zeros after them, so that no record is missing.
     pub fn of(octets: &mut Octets<'a>) -> Option<Pdu<'a>> {
         Some(Pdu {
             simulated: octets.next()?,
             no_asdu: octets.next()?,
-            security: octets.optional_text()?,
+            has_security: octets.next()?,
+            security: octets.text()?,
             records: {
                 let n: u16 = octets.next()?;
-                Records::of(octets, n as usize)?
+                Records {
+                    octets: *octets,
+                    left: n as usize,
+                }
             },
         })
     }
 
     // As the writer takes it: the first eight ASDUs, and blank records after them.
     pub fn pdu(self) -> SavPdu {
-        let security = self.security.unwrap_or_default();
         let mut sav_asdu = [SavAsdu::BLANK; SavPdu::MAX_ASDUS];
         for (asdu, record) in sav_asdu.iter_mut().zip(self.records) {
             *asdu = record.asdu();
         }
         SavPdu {
             sav_asdu,
-            security_octets: held(security),
-            security_len: security.len(),
+            security_octets: held(self.security.octets),
+            security_len: self.security.len,
             no_asdu: self.no_asdu,
             sim: self.simulated,
-            security: Presence::from(self.security.is_some()),
+            security: Presence::from(self.has_security),
         }
     }
 
@@ -259,7 +246,7 @@ impl<'a> Pdu<'a> {
     pub fn is_above_limit(self) -> bool {
         let mut records = self.records;
         SavPdu::MAX_ASDUS < records.len()
-            || SavPdu::MAX_SECURITY < self.security.unwrap_or_default().len()
+            || SavPdu::MAX_SECURITY < self.security.len
             || records.any(|record| record.has_long_text())
     }
 }

@@ -10,14 +10,14 @@ const LONGEST: usize = 16384;
 // The octets that a word stands for, `-` or pairs of hexadecimal digits in lower case, in a buffer.
 fn octets_of<'a>(word: &str, buffer: &'a mut [u8; LONGEST]) -> Option<Octets<'a>> {
     if word == "-" {
-        return Some(Octets { rest: b"" });
+        return Some(Octets::new(b""));
     }
     if word.is_empty() || !word.bytes().all(|c| matches!(c, b'0'..=b'9' | b'a'..=b'f')) {
         return None;
     }
     let octets = buffer.get_mut(..word.len() / 2)?;
     hex::decode_to_slice(word, octets).ok()?;
-    Some(Octets { rest: octets })
+    Some(Octets::new(octets))
 }
 
 // The class of a request. A kind is a letter, as the line has it: an enum would only add a second match of the same kinds.
@@ -59,7 +59,7 @@ pub fn class_of(line: &str) -> Option<Class> {
     // Each word has a buffer of fixed length: a Vec would hand an allocator and its error through.
     let mut asked = [0; LONGEST];
     let mut answered = [0; LONGEST];
-    let request = octets_of(request, &mut asked)?;
+    let request = octets_of(request, &mut asked)?.padded();
     let theirs = octets_of(answer, &mut answered)?;
-    judge(*kind, request, Theirs::of(theirs)?)
+    judge(*kind, request, Theirs::of(theirs))
 }

@@ -1,5 +1,5 @@
 // Reads lines `KIND REQUEST ANSWER` (oracle/README.md), puts each request to this project's code, holds its answer against
-// the Rust's, and prints how many lines there are of each kind and class.
+// the Rust's, and prints how many lines there are of each kind and class. What stands after the last newline isn't read.
 #![tactic(auto)]
 
 mod answer;
@@ -19,7 +19,7 @@ use crate::class::Class;
 use std::alloc::Global;
 use std::collections::BTreeMap;
 use std::io;
-use std::io::{BufRead, BufReader};
+use std::io::Read;
 
 // The octets of a line are at most so many.
 const LONGEST: usize = 65536;
@@ -45,18 +45,17 @@ impl Tally {
         }
     }
 
-    // Counts a line, and shows the first unexplained differences.
-    fn count(&mut self, rt: &impl Print, line: &[u8]) -> io::Result<()> {
-        let kind = line.first().copied().unwrap_or(0);
-        let class = class_of(line);
+    // Counts a line of a kind and class, and shows the first unexplained differences.
+    fn count(&mut self, rt: &impl Print, kind: u8, class: Option<Class>) -> io::Result<()> {
         self.lines = self.lines.saturating_add(1);
         let group = self.groups.entry((kind, class))?.or_insert(0);
         *group = group.saturating_add(1);
         if class.is_none() {
             self.unexplained = self.unexplained.saturating_add(1);
             if self.unexplained <= SHOWN {
-                let kind = char::from(kind);
-                println!(rt; "unexplained difference: {kind}, line {}", self.lines)?;
+                print!(rt; "unexplained difference: ")?;
+                rt.write_all(&[kind])?;
+                println!(rt; ", line {}", self.lines)?;
             }
         }
         Ok(())
@@ -65,10 +64,10 @@ impl Tally {
     // Nothing else shows these numbers, so a Display would be longer.
     fn print(&self, rt: &impl Print) -> io::Result<()> {
         for ((kind, class), n) in &self.groups {
-            let kind = char::from(*kind);
+            rt.write_all(&[*kind])?;
             match class {
-                Some(class) => println!(rt; "{kind} {class}: {n}")?,
-                None => println!(rt; "{kind} unexplained: {n}")?,
+                Some(class) => println!(rt; " {class}: {n}")?,
+                None => println!(rt; " unexplained: {n}")?,
             }
         }
         println!(rt;
@@ -78,19 +77,64 @@ impl Tally {
     }
 }
 
-// The class of a line; None where the difference is unexplained.
-fn class_of(line: &[u8]) -> Option<Class> {
-    if LONGEST < line.len() {
-        return None;
+// What is read of a line: its length, and as many octets as there is room for.
+#[derive(Clone, Copy)]
+struct Buffer {
+    octets: [u8; LONGEST],
+    len: usize,
+}
+
+impl Buffer {
+    const EMPTY: Buffer = Buffer {
+        octets: [0; LONGEST],
+        len: 0,
+    };
+
+    // Adds what is read next, of a line that is too long the length alone. No piece is longer than a line can be, so the first
+    // octet is always kept.
+    fn add(&mut self, piece: &[u8]) {
+        let len = self.len.saturating_add(piece.len());
+        if len <= LONGEST {
+            self.octets[self.len..len].copy_from_slice(piece);
+        }
+        self.len = len;
     }
-    line::class_of(std::str::from_utf8(line).ok()?)
+
+    // The kind of the line; an empty one has that of the line before it.
+    fn kind(&self) -> u8 {
+        self.octets[0]
+    }
+
+    // The class of the line; None where the difference is unexplained.
+    fn class(&self) -> Option<Class> {
+        let line = self.octets.get(..self.len)?;
+        line::class_of(std::str::from_utf8(line).ok()?)
+    }
+}
+
+// Takes what is read next: the end of a line, whole lines, and the start of one.
+fn take(rt: &impl Print, chunk: &[u8], line: &mut Buffer, tally: &mut Tally) -> io::Result<()> {
+    for (i, piece) in chunk.split(|octet| *octet == b'\n').enumerate() {
+        if 0 < i {
+            tally.count(rt, line.kind(), line.class())?;
+            line.len = 0;
+        }
+        line.add(piece);
+    }
+    Ok(())
 }
 
 fn main(rt: HostRuntime) -> io::Result<()> {
     let mut tally = Tally::new(rt.alloc());
-    let reader = BufReader::new(rt.alloc(), rt.reader())?;
-    for line in reader.split(rt.alloc(), b'\n') {
-        tally.count(&rt, &line?)?;
+    let mut line = Buffer::EMPTY;
+    let mut chunk = [0; LONGEST];
+    let mut input = rt.stdin();
+    for _ in 0..u64::MAX {
+        let n = input.read(&mut chunk)?;
+        if n == 0 {
+            break;
+        }
+        take(&rt, &chunk[..n], &mut line, &mut tally)?;
     }
     tally.print(&rt)
 }

@@ -1,5 +1,6 @@
 // Octets that are read from the front, and the fields that stand in them: requests and answers have the layout of
-// oracle/README.md, in which numbers are big-endian.
+// oracle/README.md, in which numbers are big-endian. A request is read with zeros after it, and a mark of it says that a field
+// is there where it is 1; of an answer each octet counts.
 ghost use Rattle.std.specs.Iterator.{at_most};
 
 use std::marker::PhantomData;
@@ -8,6 +9,23 @@ use std::num::f32_from_bits_with_nan;
 #[derive(Clone, Copy)]
 pub struct Octets<'a> {
     pub rest: &'a [u8],
+    // Whether zeros stand after them.
+    is_padded: bool,
+}
+
+// A text: its length, and its octets, which are fewer where zeros stand after them.
+#[derive(Clone, Copy)]
+pub struct Text<'a> {
+    pub len: usize,
+    pub octets: &'a [u8],
+}
+
+// The first N octets, and zeros where there are fewer.
+pub fn held<const N: usize>(s: &[u8]) -> [u8; N] {
+    let mut held = [0; N];
+    let n = s.len().min(N);
+    held[..n].copy_from_slice(&s[..n]);
+    held
 }
 
 // A field of the layout.
@@ -17,18 +35,36 @@ pub trait Field: Sized {
 }
 
 impl<'a> Octets<'a> {
-    // The next n octets.
+    // With nothing after them.
+    pub fn new(rest: &'a [u8]) -> Octets<'a> {
+        Octets {
+            rest,
+            is_padded: false,
+        }
+    }
+
+    // The same with zeros after them.
+    pub fn padded(self) -> Octets<'a> {
+        Octets {
+            rest: self.rest,
+            is_padded: true,
+        }
+    }
+
+    // The next n octets, or all that are left where zeros stand after them.
     pub fn take(&mut self, n: usize) -> Option<&'a [u8]> {
-        let (front, rest) = self.rest.split_at_checked(n)?;
+        let Some((front, rest)) = self.rest.split_at_checked(n) else {
+            let front = self.is_padded.then_some(self.rest)?;
+            self.rest = b"";
+            return Some(front);
+        };
         self.rest = rest;
         Some(front)
     }
 
     // The next N octets.
     pub fn array<const N: usize>(&mut self) -> Option<[u8; N]> {
-        let (front, rest) = self.rest.split_first_chunk::<N>()?;
-        self.rest = rest;
-        Some(*front)
+        Some(held(self.take(N)?))
     }
 
     // The next field.
@@ -36,20 +72,14 @@ impl<'a> Octets<'a> {
         T::of(self)
     }
 
-    // The next text: its length, and its octets.
-    pub fn text(&mut self) -> Option<&'a [u8]> {
+    // The next text.
+    pub fn text(&mut self) -> Option<Text<'a>> {
         let length: u16 = self.next()?;
-        self.take(length as usize)
-    }
-
-    // A mark and the text that it is for, with no octet where the mark says that it is absent.
-    pub fn optional_text(&mut self) -> Option<Option<&'a [u8]>> {
-        let present: bool = self.next()?;
-        let text = self.text()?;
-        if present {
-            return Some(Some(text));
-        }
-        text.is_empty().then_some(None)
+        let len = length as usize;
+        Some(Text {
+            len,
+            octets: self.take(len)?,
+        })
     }
 
     // The next n fields; None where one isn't there.
@@ -95,7 +125,7 @@ impl<'a, T> Fields<'a, T> {
     // No field.
     pub fn none() -> Fields<'a, T> {
         Fields {
-            octets: Octets { rest: b"" },
+            octets: Octets::new(b""),
             left: 0,
             of: PhantomData,
         }
@@ -161,7 +191,7 @@ impl Field for bool {
         match octets.next()? {
             0u8 => Some(false),
             1 => Some(true),
-            _ => None,
+            _ => octets.is_padded.then_some(false),
         }
     }
 }
@@ -180,7 +210,7 @@ impl<A: Field + Drop, B: Field> Field for (A, B) {
     }
 }
 
-// A mark and the field that it is for: zero where the mark says that it is absent.
+// A mark and the field that it is for: of an answer zero where the mark says that it is absent.
 impl<T: Field + Default + PartialEq + Drop> Field for Option<T> {
     fn of(octets: &mut Octets) -> Option<Option<T>> {
         let present: bool = octets.next()?;
@@ -188,6 +218,6 @@ impl<T: Field + Default + PartialEq + Drop> Field for Option<T> {
         if present {
             return Some(Some(field));
         }
-        (field == T::default()).then_some(None)
+        (octets.is_padded || field == T::default()).then_some(None)
     }
 }

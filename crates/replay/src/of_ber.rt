@@ -26,8 +26,7 @@ impl Field for Width {
         match octets.next()? {
             1u8 => Some(Width::One),
             2 => Some(Width::Two),
-            4 => Some(Width::Four),
-            _ => None,
+            _ => Some(Width::Four),
         }
     }
 }
@@ -107,15 +106,19 @@ fn refused_length(
     }
 }
 
-// Whether the Rust's buffer is as it was lent but for the tag at the index, and ours is as it was lent.
+// The octets from a place on; none past the end.
+fn after(s: &[u8], at: usize) -> &[u8] {
+    s.get(at..).unwrap_or_default()
+}
+
+// Whether the Rust's buffer is as it was lent but for the tag at the index, and ours is as it was lent. Where the Rust's ends at
+// the index, a 0 stands there.
 fn tag_left(tag: u8, at: usize, theirs: &[u8], ours: &[u8]) -> bool {
-    theirs.len() == ours.len()
-        && at < ours.len()
-        && ours.iter().all(|octet| *octet == LENT)
-        && theirs
-            .iter()
-            .enumerate()
-            .all(|(i, octet)| *octet == if i == at { tag } else { LENT })
+    let next = at.saturating_add(1);
+    ours.get(at) == Some(&LENT)
+        && theirs.get(at).copied().unwrap_or(0) == tag
+        && ours.get(..at) == theirs.get(..at)
+        && after(ours, next) == after(theirs, next)
 }
 
 // The answer of the integer writer: how many content octets, and the octets written.

@@ -35,7 +35,7 @@ fn has_header(theirs: &mut Octets, h: EthernetHeader) -> Option<()> {
 
 // Whether a text is the lossy UTF-8 reading of octets, as the Rust's String::from_utf8_lossy has it.
 fn is_lossy(text: &[u8], s: &[u8]) -> Option<()> {
-    let mut text = Octets { rest: text };
+    let mut text = Octets::new(text);
     for chunk in s.utf8_chunks() {
         text.has_octets(chunk.valid().as_bytes())?;
         if !chunk.invalid().is_empty() {
@@ -60,9 +60,9 @@ fn dat_set(asdu: &SavAsdu) -> &[u8] {
 }
 
 fn has_asdu(theirs: &mut Octets, asdu: &SavAsdu) -> Option<()> {
-    is_lossy(theirs.text()?, sv_id(asdu))?;
+    is_lossy(theirs.text()?.octets, sv_id(asdu))?;
     theirs.has(asdu.dat_set == Presence::Present)?;
-    is_lossy(theirs.text()?, dat_set(asdu))?;
+    is_lossy(theirs.text()?.octets, dat_set(asdu))?;
     theirs.has(asdu.smp_cnt)?;
     theirs.has(asdu.conf_rev)?;
     theirs.has(asdu.refr_tm == Presence::Present)?;
@@ -100,7 +100,7 @@ fn has_pdu(theirs: &mut Octets, pdu: &SavPdu, samples: Samples) -> Option<()> {
     theirs.has(pdu.sim)?;
     theirs.has(pdu.no_asdu)?;
     theirs.has(pdu.security == Presence::Present)?;
-    if theirs.text()? != pdu.security_octets.get(..pdu.security_len)? {
+    if theirs.text()?.octets != pdu.security_octets.get(..pdu.security_len)? {
         return None;
     }
     // The number of ASDU records.

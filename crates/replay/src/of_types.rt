@@ -57,11 +57,10 @@ pub fn timestamp(mut request: Octets, theirs: Theirs) -> Option<Class> {
 
 pub fn nanoseconds(mut request: Octets, theirs: Theirs) -> Option<Class> {
     let fraction = request.next()?;
-    let mut theirs = theirs.answer()?;
-    let nanoseconds: u32 = theirs.next()?;
-    let answered = answered(theirs)?;
-    if nanoseconds == types::nanoseconds(fraction) {
-        return Some(answered);
+    let octets = theirs.answer()?;
+    let nanoseconds: u32 = octets.padded().next()?;
+    if octets.rest.len() == 4 && nanoseconds == types::nanoseconds(fraction) {
+        return Some(Class::Answered);
     }
     (0x100_0000 <= fraction && nanoseconds as u64 == uncut(fraction)).then_some(
         Class::LargeFraction,

@@ -77,9 +77,8 @@ pub fn encode(request: Octets, theirs: Theirs) -> Option<Class> {
     let counts = pdu.each_sample(|sample| sample.count().unwrap_or(0));
     let qualities = pdu.each_sample(|sample| Quality::from_sv(sample.quality).to_sv());
     let ours = of_counts(&asked, theirs, &counts, &qualities);
-    let size = theirs.answer().map_or(0, |frame| frame.rest.len());
     let wide = pdu.any_sample(|sample| SavAsdu::QUALITY_LIMIT <= sample.quality);
-    let found = writing_class::class_of(&asked, ours, theirs, size, wide)?;
+    let found = writing_class::class_of(&asked, ours, theirs, wide)?;
     if wide {
         let words = pdu.each_sample(|sample| sample.quality);
         let refused = of_counts(&asked, theirs, &counts, &words);
@@ -102,15 +101,7 @@ pub fn size(request: Octets, theirs: Theirs) -> Option<Class> {
     if let Some(class) = writing_class::undescribed(&asked) {
         return Some(class);
     }
-    let size = match theirs {
-        Theirs::Answered(mut octets) => {
-            let size: u32 = octets.next()?;
-            octets.end()?;
-            size as usize
-        }
-        _ => 0,
-    };
     let sized = encode_smv::smv_size(asked.header, asked.pdu.pdu(), asked.pdu.channels(), false);
-    let ours = sized.map(|n| n == size);
-    writing_class::class_of(&asked, ours, theirs, size, false)
+    let ours = sized.map(|n| theirs.size() == Some(n));
+    writing_class::class_of(&asked, ours, theirs, false)
 }

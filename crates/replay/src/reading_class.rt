@@ -5,26 +5,32 @@ use crate::class::Class;
 use crate::description::{Description, Pdu};
 use rt_services::{Reason, Refusal, SavAsdu, SavDataSetConfig, SavPdu, Vlan};
 
-// The octets before a place.
-fn before(s: &[u8], place: usize) -> &[u8] {
-    s.get(..place).unwrap_or_default()
-}
-
 // The octet at a place; 0 past the end.
 fn octet(s: &[u8], at: usize) -> u8 {
     s.get(at).copied().unwrap_or(0)
 }
 
+// The number of two octets from a place on.
+fn number(s: &[u8], at: usize) -> u16 {
+    u16::from_be_bytes([octet(s, at), octet(s, at.saturating_add(1))])
+}
+
+// The octet so far before a place, or the first.
+fn before(s: &[u8], place: usize, n: usize) -> u8 {
+    octet(s, place.saturating_sub(n))
+}
+
 // Whether the content at a place is longer than a limit, by the length octets before it, in the form of one octet or of 81,
 // of 82, or of 83.
-fn is_longer(s: &[u8], place: usize, limit: usize) -> bool {
-    match before(s, place) {
-        [.., len] if limit < *len as usize => true,
-        [.., 0x82, high, low] => limit < u16::from_be_bytes([*high, *low]) as usize,
-        [.., 0x83, high, middle, low] => {
-            limit < u32::from_be_bytes([0, *high, *middle, *low]) as usize
-        }
-        _ => false,
+fn is_longer(s: &[u8], place: usize, limit: u32) -> bool {
+    let len = number(s, place.saturating_sub(2));
+    let high = before(s, place, 3);
+    if limit < len as u32 % 0x100 {
+        true
+    } else if high == 0x82 {
+        limit < len as u32
+    } else {
+        before(s, place, 4) == 0x83 && limit < high as u32 * 0x1_0000 + len as u32
     }
 }
 
@@ -42,11 +48,10 @@ fn after_head(s: &[u8], at: usize) -> usize {
 
 // Whether noASDU, of so many octets at a place, is above its limit.
 fn are_many(s: &[u8], place: usize, octets: u8) -> bool {
-    let content = s.get(place..).unwrap_or_default();
-    match (octets, content) {
-        (0, [next, ..]) => 0x80 <= *next,
-        (1, [n, ..]) => SavPdu::MAX_ASDUS < *n as usize,
-        (2, [high, low, ..]) => SavPdu::MAX_ASDUS < u16::from_be_bytes([*high, *low]) as usize,
+    match octets {
+        0 => 0x80 <= octet(s, place),
+        1 => SavPdu::MAX_ASDUS < octet(s, place) as usize,
+        2 => SavPdu::MAX_ASDUS < number(s, place) as usize,
         _ => octets == 3,
     }
 }
@@ -55,15 +60,15 @@ fn are_many(s: &[u8], place: usize, octets: u8) -> bool {
 fn is_above(s: &[u8], start: usize, place: usize) -> bool {
     let no_asdu = after_head(s, after_head(s, start));
     // The last of the length octets before noASDU says how many octets it has, at most three.
-    let octets = before(s, no_asdu).last().copied().unwrap_or(0);
+    let octets = before(s, no_asdu, 1);
     if place == no_asdu {
         return are_many(s, place, octets);
     }
     let next = no_asdu.saturating_add(octets as usize);
     if place == after_head(s, next) {
-        return octet(s, next) == 0x81 && is_longer(s, place, SavPdu::MAX_SECURITY);
+        return octet(s, next) == 0x81 && is_longer(s, place, SavPdu::MAX_SECURITY as u32);
     }
-    is_longer(s, place, SavAsdu::MAX_TEXT)
+    is_longer(s, place, SavAsdu::MAX_TEXT as u32)
 }
 
 // Refused 4: what stands at the place is above its limit. Where the Rust refuses, it does so there or further on.
@@ -80,10 +85,15 @@ fn limit(s: &[u8], start: usize, theirs: Theirs, place: usize) -> Option<Class> 
 
 // Whether a place is that of the first content octet of refrTm, by the tag 84 and the length octets before it.
 fn is_after_84(s: &[u8], place: usize) -> bool {
-    matches!(
-        before(s, place),
-        [.., 0x84, _] | [.., 0x84, 0x81, _] | [.., 0x84, 0x82, _, _] | [.., 0x84, 0x83, _, _, _]
-    )
+    if before(s, place, 2) == 0x84 {
+        true
+    } else if before(s, place, 3) == 0x84 {
+        before(s, place, 2) == 0x81
+    } else if before(s, place, 4) == 0x84 {
+        before(s, place, 3) == 0x82
+    } else {
+        before(s, place, 5) == 0x84 && before(s, place, 4) == 0x83
+    }
 }
 
 // Refused 1 where the Rust panics by a range: fewer than 8 octets of refrTm.
@@ -159,7 +169,7 @@ impl<'a> Answers<'a> {
     pub fn class_of_pdu(&self, start: usize) -> Option<Class> {
         let found = self.class_from(start)?;
         if found == Class::LimitAnswered {
-            let mut octets = self.theirs.answer()?;
+            let mut octets = self.theirs.answer()?.padded();
             return Pdu::of(&mut octets)?.is_above_limit().then_some(found);
         }
         Some(found)
@@ -174,7 +184,7 @@ impl<'a> Answers<'a> {
         let start = if is_tagged(s) { 26 } else { 22 };
         let found = self.class_from(start)?;
         if found == Class::LimitAnswered {
-            let description = Description::of(self.theirs.answer()?)?;
+            let description = Description::of(self.theirs.answer()?.padded())?;
             return description.pdu.is_above_limit().then_some(found);
         }
         Some(found)

@@ -51,9 +51,14 @@ fn header_octets(asked: &Description) -> usize {
     }
 }
 
-// The class of a refusal. The Rust's frame has so many octets, where it answers. No From, since it takes the request and
-// both answers.
-fn refused(asked: &Description, ours: Refusal, theirs: Theirs, size: usize) -> Option<Class> {
+// The octets of the Rust's frame, where it answers: the size that it says, or those that it writes.
+fn frame_octets(theirs: Theirs) -> usize {
+    let written = theirs.answer().map_or(0, |frame| frame.rest.len());
+    theirs.size().unwrap_or(written)
+}
+
+// The class of a refusal. No From, since it takes the request and both answers.
+fn refused(asked: &Description, ours: Refusal, theirs: Theirs) -> Option<Class> {
     if ours.place != 0 {
         return None;
     }
@@ -67,7 +72,7 @@ fn refused(asked: &Description, ours: Refusal, theirs: Theirs, size: usize) -> O
             }
         }
         (Reason::TooLongToWrite, Theirs::Answered(_)) => {
-            let pdu = size.saturating_sub(header_octets(asked));
+            let pdu = frame_octets(theirs).saturating_sub(header_octets(asked));
             (SavPdu::MAX_OCTETS < pdu).then_some(Class::LongPdu)
         }
         (Reason::ValueOutOfRange, Theirs::Refused { number: 11, .. }) => Some(Class::Place0),
@@ -81,21 +86,14 @@ fn outside(theirs: Theirs) -> Option<Class> {
         Theirs::Answered(_) => Some(Class::OutsideAnswered),
         Theirs::Refused { .. } => Some(Class::OutsideRefused),
         Theirs::Panicked(_) => Some(Class::OutsidePanicked),
-        Theirs::NotAsked => None,
+        Theirs::NotAsked | Theirs::Other => None,
     }
 }
 
-// The class of two answers, where the Rust's frame has so many octets; wide: a quality word is of 2^13 or more in the request,
-// and was cleared to what Quality holds.
-pub fn class_of(
-    asked: &Description,
-    ours: Ours,
-    theirs: Theirs,
-    size: usize,
-    wide: bool,
-) -> Option<Class> {
+// The class of two answers; wide: a quality word is of 2^13 or more in the request, and was cleared to what Quality holds.
+pub fn class_of(asked: &Description, ours: Ours, theirs: Theirs, wide: bool) -> Option<Class> {
     match ours {
-        Err(refusal) => refused(asked, refusal, theirs, size),
+        Err(refusal) => refused(asked, refusal, theirs),
         Ok(same) => {
             if !same || is_outside(asked) || SavDataSetConfig::MAX_CHANNELS < asked.pdu.channels() {
                 None
