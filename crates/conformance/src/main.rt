@@ -3,6 +3,9 @@
 // its space counts as a difference more.
 #![tactic(auto)]
 
+ghost use Rattle.std.specs.Prelude.{◌≡◌, length};
+ghost use Rattle.std.specs.Io.{ReadsAtMost};
+
 mod answer;
 mod call;
 mod case;
@@ -22,7 +25,7 @@ use std::io;
 use std::io::Read;
 
 // Octets of a list, one more than it can have.
-const INPUT: u64 = 1048576;
+const INPUT: usize = 1048576;
 
 // Differences that are printed.
 const SHOWN: usize = 20;
@@ -133,20 +136,48 @@ impl Run {
     }
 }
 
-fn main(rt: HostRuntime) -> io::Result<()> {
-    let mut list = Vec::new(rt.alloc());
-    rt.stdin().take(INPUT).read_to_end(&mut list)?;
-    let mut run = Run::new();
-    for line in list.split(|octet| *octet == b'\n') {
-        if let Ok(text) = std::str::from_utf8(line) {
-            run.take(&rt, text)?;
-        } else {
-            // No word of the format has a character that isn't ASCII.
-            let text = String::from_utf8_lossy(rt.alloc(), line)?;
-            run.take(&rt, &text)?;
+// The octets of a list before they are read.
+fn space() -> [u8; INPUT]
+    ensures { length result ≡ 1048576 }
+{
+    [0; INPUT]
+}
+
+// Reads until buf is full or the input ends, and answers how many octets it put at the start of buf. Each
+// turn puts one at least, so there are no more turns than octets.
+fn read_full(reader: &mut impl Read, buf: &mut [u8]) -> io::Result<usize>
+    ensures { ReadsAtMost result buf.new }
+{
+    let mut done = 0;
+    for _ in 0..buf.len() {
+        let n = reader.read(&mut buf[done..])?;
+        if n == 0 {
+            break;
+        }
+        done += n;
+    }
+    Ok(done)
+}
+
+// The text of a list. No word of the format has an octet that isn't ASCII, nor the mark that stands for
+// one here.
+fn text_of(list: &mut [u8]) -> &str {
+    for octet in list.iter_mut() {
+        if !octet.is_ascii() {
+            *octet = b'?';
         }
     }
-    if INPUT <= list.len() as u64 {
+    std::str::from_utf8(list).unwrap_or_default()
+}
+
+fn main(rt: HostRuntime) -> io::Result<()> {
+    let mut input = space();
+    let n = read_full(&mut rt.stdin(), &mut input)?;
+    let mut run = Run::new();
+    for line in text_of(&mut input[..n]).split('\n') {
+        run.take(&rt, line)?;
+    }
+    if INPUT <= n {
         println!(rt; "the list is too long")?;
         run.differ = run.differ.saturating_add(1);
     }

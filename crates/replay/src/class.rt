@@ -56,6 +56,44 @@ pub enum Class {
     BothLossy,
 }
 
+impl Class {
+    // In their order.
+    pub const ALL: [Class; 32] = [
+        Class::Answered,
+        Class::Refused,
+        Class::NotAsked,
+        Class::LargeFraction,
+        Class::PanicAtEnd,
+        Class::PanicNoRoom,
+        Class::Place0,
+        Class::TagLeft,
+        Class::Lossy,
+        Class::ManyChannels,
+        Class::LimitAnswered,
+        Class::LimitRefused,
+        Class::LimitPanicked,
+        Class::PanicHeader,
+        Class::PanicRefrTm,
+        Class::PanicGmIdentity,
+        Class::HalfTag,
+        Class::OtherCount,
+        Class::Uneven,
+        Class::OutsideAnswered,
+        Class::OutsideRefused,
+        Class::OutsidePanicked,
+        Class::LongPdu,
+        Class::WideQuality,
+        Class::OtherScales,
+        Class::PanicSum,
+        Class::Shortest,
+        Class::ShortestLossy,
+        Class::Fixed,
+        Class::FixedLossy,
+        Class::Both,
+        Class::BothLossy,
+    ];
+}
+
 impl fmt::Display for Class {
     fn fmt<W: fmt::Write>(&self, f: &mut fmt::Formatter<W>) -> fmt::Result {
         f.write_str(match self {

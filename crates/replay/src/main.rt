@@ -16,8 +16,6 @@ mod reading_class;
 mod writing_class;
 
 use crate::class::Class;
-use std::alloc::Global;
-use std::collections::BTreeMap;
 use std::io;
 use std::io::Read;
 
@@ -27,29 +25,36 @@ const LONGEST: usize = 65536;
 // How many unexplained differences are shown.
 const SHOWN: u64 = 5;
 
+// How many groups a kind can have: the unexplained lines, and those of each class.
+const GROUPS: usize = 1 + Class::ALL.len();
+
 // How many lines there are in all, how many of them are unexplained differences, and how many there are of each kind and
-// class.
-#[derive(Drop)]
+// class: an array, since a judge that runs out of memory judges nothing.
+#[derive(Clone, Copy)]
 struct Tally {
     lines: u64,
     unexplained: u64,
-    groups: BTreeMap<(u8, Option<Class>), u64>,
+    groups: [[u64; GROUPS]; 256],
+}
+
+// The place of a class among the groups of a kind.
+fn place_of(class: Option<Class>) -> usize {
+    class.map_or(0, |class| 1 + class as usize)
 }
 
 impl Tally {
-    fn new(alloc: Global) -> Tally {
-        Tally {
-            lines: 0,
-            unexplained: 0,
-            groups: BTreeMap::new(alloc),
-        }
-    }
+    const EMPTY: Tally = Tally {
+        lines: 0,
+        unexplained: 0,
+        groups: [[0; GROUPS]; 256],
+    };
 
     // Counts a line of a kind and class, and shows the first unexplained differences.
     fn count(&mut self, rt: &impl Print, kind: u8, class: Option<Class>) -> io::Result<()> {
         self.lines = self.lines.saturating_add(1);
-        let group = self.groups.entry((kind, class))?.or_insert(0);
-        *group = group.saturating_add(1);
+        if let Some(group) = self.groups[kind as usize].get_mut(place_of(class)) {
+            *group = group.saturating_add(1);
+        }
         if class.is_none() {
             self.unexplained = self.unexplained.saturating_add(1);
             if self.unexplained <= SHOWN {
@@ -63,17 +68,28 @@ impl Tally {
 
     // Nothing else shows these numbers, so a Display would be longer.
     fn print(&self, rt: &impl Print) -> io::Result<()> {
-        for ((kind, class), n) in &self.groups {
-            rt.write_all(&[*kind])?;
-            match class {
-                Some(class) => println!(rt; " {class}: {n}")?,
-                None => println!(rt; " unexplained: {n}")?,
+        for (kind, groups) in (0..=u8::MAX).zip(self.groups) {
+            let names = std::iter::once(None).chain(Class::ALL.into_iter().map(Some));
+            for (class, n) in names.zip(groups) {
+                print_group(rt, kind, class, n)?;
             }
         }
         println!(rt;
             "{} inputs, {} unexplained differences",
             self.lines, self.unexplained
         )
+    }
+}
+
+// How many lines there are of a kind and class, where there are any.
+fn print_group(rt: &impl Print, kind: u8, class: Option<Class>, n: u64) -> io::Result<()> {
+    if n == 0 {
+        return Ok(());
+    }
+    rt.write_all(&[kind])?;
+    match class {
+        Some(class) => println!(rt; " {class}: {n}"),
+        None => println!(rt; " unexplained: {n}"),
     }
 }
 
@@ -125,7 +141,7 @@ fn take(rt: &impl Print, chunk: &[u8], line: &mut Buffer, tally: &mut Tally) -> 
 }
 
 fn main(rt: HostRuntime) -> io::Result<()> {
-    let mut tally = Tally::new(rt.alloc());
+    let mut tally = Tally::EMPTY;
     let mut line = Buffer::EMPTY;
     let mut chunk = [0; LONGEST];
     let mut input = rt.stdin();
