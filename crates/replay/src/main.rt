@@ -68,10 +68,10 @@ impl Tally {
 
     // Nothing else shows these numbers, so a Display would be longer.
     fn print(&self, rt: &impl Print) -> io::Result<()> {
-        for (kind, groups) in (0..=u8::MAX).zip(self.groups) {
+        for (kind, groups) in (0..=u8::MAX).zip(self.groups.iter()) {
             let names = std::iter::once(None).chain(Class::ALL.into_iter().map(Some));
-            for (class, n) in names.zip(groups) {
-                print_group(rt, kind, class, n)?;
+            for (class, n) in names.zip(groups.iter()) {
+                print_group(rt, kind, class, *n)?;
             }
         }
         println!(rt;
