@@ -7,6 +7,7 @@ use Rattle.rt_services.specs.Reasons.{reason_number}
 use Rattle.rt_services.specs.declared.Refusal.{Refusal}
 use Rattle.ber_decode.specs.declared.Cursor.{Cursor}
 use Rattle.ber_decode.specs.declared.Head.{Head}
+use Rattle.ber_decode.specs.declared.Numbered.{Numbered}
 use Rattle.ber_decode.specs.declared.Span.{Span}
 use Rattle.ber_decode.specs.declared.Width.{Width}
 use Rattle.ber_decode.specs.declared.Width.TheVariants as width
@@ -15,6 +16,11 @@ use Rattle.ber_decode.specs.declared.Width.TheVariants as width
 abbrev pub told_at : {A : Type 0} → Result (A × Cursor) Refusal → Out A
 told_at (Ok x) = got x.0 x.1.at
 told_at (Err r) = refused (reason_number r.reason) r.place
+
+-- a step's answer, where a refusal has a number that may be the caller's own
+abbrev pub numbered_at : {A : Type 0} → Result (A × Cursor) Numbered → Out A
+numbered_at (Ok x) = got x.0 x.1.at
+numbered_at (Err r) = refused r.number r.place
 
 -- what a step found, put otherwise
 abbrev pub found : {A B : Type 0} → (A → B) → Out A → Out B

@@ -5,7 +5,8 @@
 ghost use Rattle.std.specs.Prelude.{◌≡◌, ◌+◌, ◌-◌, ◌≤◌, ◌<◌, ◌^◌, length, ltb};
 ghost use Rattle.definition.specs.Read.{be_at, head_at, number_at, span_at, has_at};
 ghost use Rattle.rt_services.specs.Reasons.{reason_number};
-ghost use Rattle.ber_decode.specs.Told.{told_at, found, head_of, span_from, width_octets};
+ghost use Rattle.definition.specs.Limits.{ends_too_soon};
+ghost use Rattle.ber_decode.specs.Told.{told_at, numbered_at, found, head_of, span_from, width_octets};
 
 use rt_services::{Reason, Refusal};
 
@@ -27,6 +28,13 @@ pub struct Head {
 pub struct Span {
     pub at: usize,
     pub len: usize,
+}
+
+// A refusal by a number, which may be one of the caller's own, and its place.
+#[derive(Clone, Copy, PartialEq, Eq)]
+pub struct Numbered {
+    pub number: usize,
+    pub place: usize,
 }
 
 // The octets of an integer field.
@@ -83,6 +91,16 @@ fn integer_of(s: &[u8], at: usize, width: usize, len: usize) -> Result<(u32, Cur
         return Err(Reason::IntegerTooLong.at(at));
     }
     Ok((be(s, at + 1, width), after))
+}
+
+// Octets end too soon, from a place on.
+fn ended(place: usize) -> Numbered
+    ensures { (result.number ≡ ends_too_soon) × (result.place ≡ place) }
+{
+    Numbered {
+        number: Reason::EndsTooSoon.number(),
+        place,
+    }
 }
 
 impl Width {
@@ -145,10 +163,48 @@ impl Cursor {
         integer_of(s, self.at, width.octets(), len)
     }
 
-    // len octets; above limit they are refused for that reason. Reason and limit are two parameters
-    // here and in decode_asdu, as a struct of the two would be made at each call and taken apart at
-    // once. `integer` and this answer other things, so that they are no one function.
+    // len octets; above limit they are refused with that number, whichever it is. `integer` and this
+    // answer other things, so that they are no one function.
     pub fn octets(
+        self,
+        s: &[u8],
+        number: usize,
+        limit: usize,
+        len: usize,
+    ) -> Result<(Span, Cursor), Numbered>
+        ensures { numbered_at result ≡ found (span_from self.at len) (span_at number limit s.now self.at len) }
+    {
+        if !self.sum_fits(len) {
+            return Err(ended(s.len()));
+        }
+        self.octets_after(s, number, limit, len)
+    }
+
+    // The same where place and length stay below 2^64.
+    pub fn octets_after(
+        self,
+        s: &[u8],
+        number: usize,
+        limit: usize,
+        len: usize,
+    ) -> Result<(Span, Cursor), Numbered>
+        requires { self.at + len < 2 ^ 64 }
+        ensures { numbered_at result ≡ found (span_from self.at len) (span_at number limit s.now self.at len) }
+    {
+        let at = self.at;
+        if at > s.len() || len > s.len() - at {
+            return Err(ended(at));
+        }
+        if limit < len {
+            return Err(Numbered { number, place: at });
+        }
+        Ok((Span { at, len }, Cursor { at: at + len }))
+    }
+
+    // len octets; above limit they are refused for that reason: beside `octets`, as a refusal has a reason,
+    // and not every number is one's. Reason and limit are two parameters here and in decode_asdu, as a
+    // struct of the two would be made at each call and taken apart at once.
+    pub fn octets_for(
         self,
         s: &[u8],
         reason: Reason,
@@ -160,11 +216,11 @@ impl Cursor {
         if !self.sum_fits(len) {
             return Err(Reason::EndsTooSoon.at(s.len()));
         }
-        self.octets_after(s, reason, limit, len)
+        self.octets_for_after(s, reason, limit, len)
     }
 
     // The same where place and length stay below 2^64.
-    pub fn octets_after(
+    pub fn octets_for_after(
         self,
         s: &[u8],
         reason: Reason,

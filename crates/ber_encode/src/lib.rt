@@ -78,7 +78,7 @@ pub fn put_bytes(buffer: &mut [u8], at: usize, src: &[u8]) -> usize
     ensures { Wrote buffer.old at src.now buffer.new result }
 {
     let end = at + src.len();
-    buffer[at..end].copy_from_slice(src);
+    rt_services::copy_all(&mut buffer[at..end], src);
     end
 }
 

@@ -92,7 +92,7 @@ pub fn scales_at(
     ensures { factors.new ≡ sets factors.old 0 (set_at [] scales.now i).1.scale_factor }
 {
     let at = i * SavDataSetConfig::MAX_CHANNELS;
-    factors.copy_from_slice(&scales[at..at + SavDataSetConfig::MAX_CHANNELS]);
+    rt_services::copy_all(factors, &scales[at..at + SavDataSetConfig::MAX_CHANNELS]);
 }
 
 // Set i.
@@ -128,7 +128,10 @@ fn put_set(
     numbers[1 + i * 2] = conf_rev;
     numbers[2 + i * 2] = set.channels as u32;
     let at = i * SavDataSetConfig::MAX_CHANNELS;
-    scales[at..at + SavDataSetConfig::MAX_CHANNELS].copy_from_slice(&set.scale_factor);
+    rt_services::copy_all(
+        &mut scales[at..at + SavDataSetConfig::MAX_CHANNELS],
+        &set.scale_factor,
+    );
 }
 
 // One more data set; the answer is how many sets are then held. Refused as 8, then as 14; a refusal

@@ -8,4 +8,4 @@ use Rattle.set_store.proofs.put_set.Goals as goal
 pub returns : goal.returns
 returns c = let a = c.args in
     let long : length a.set.scale_factor ≡ max_channels = search rules in
-    (put_numbers a.numbers.now a.i a.conf_rev a.set.channels, rw c.copy_from_slice.ensures.after (put_sets a.scales.now _ _ a.set.scale_factor (omega arith) (omega arith)))
+    (put_numbers a.numbers.now a.i a.conf_rev a.set.channels, rw c.copy_all.ensures.after (put_sets a.scales.now _ _ a.set.scale_factor (omega arith) (omega arith)))

@@ -9,4 +9,4 @@ pub returns : goal.returns
 returns c = let a = c.args in
     let at = a.i * max_channels in
     let e : at + max_channels - at ≡ max_channels = omega arith in
-    c.copy_from_slice.ensures.after ∙ rw e (part_up a.scales.now at nan max_channels (omega arith) ∙ sym (all_sets a.factors.now _ (c.told-factors ∙ sym (up_length max_channels _))))
+    c.copy_all.ensures.after ∙ rw e (part_up a.scales.now at nan max_channels (omega arith) ∙ sym (all_sets a.factors.now _ (c.told-factors ∙ sym (up_length max_channels _))))

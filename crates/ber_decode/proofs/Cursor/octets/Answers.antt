@@ -6,4 +6,4 @@ use Rattle.ber_decode.specs.Cases.{span_sum}
 use Rattle.ber_decode.proofs.Cursor.octets.Goals as goal
 
 pub returns-then-not-sum_fits : goal.returns-then-not-sum_fits
-returns-then-not-sum_fits c = rw c.at.ensures (sym (ap (found (span_from _ _)) (span_sum _ _ _ _ _ (omega arith) (ltb-false _ _ (sym c.sum_fits.ensures ∙ c.if-not-sum_fits.true)))))
+returns-then-not-sum_fits c = rw (c.ended.ensures.0, c.ended.ensures.1) (sym (ap (found (span_from _ _)) (span_sum _ _ _ _ _ (omega arith) (ltb-false _ _ (sym c.sum_fits.ensures ∙ c.if-not-sum_fits.true)))))

@@ -3,18 +3,18 @@ use Rattle.std.proofs.Common.{sym, ap, arith}
 use Rattle.ber_decode.specs.Told.{found, span_from}
 use Rattle.ber_decode.specs.Cases.{span_cut_at, span_long, span_held}
 use Rattle.ber_decode.proofs.Cursor.octets_after.Goals as goal
-use Rattle.ber_decode.proofs.Cursor.octets_after.Goals.{then-s-at-via-then-s-at, then-s-at-via-else-s-at+then-s-at-2}
+use Rattle.ber_decode.proofs.Cursor.octets_after.Goals.{then-at-s-via-then-at-s, then-at-s-via-else-at-s+then-len-s}
 
-pub returns-then-s-at : goal.returns-then-s-at
-returns-then-s-at c =
-    rw c.at.ensures
-    (elim c.then-s-at.branch [
-      | then-s-at-via-then-s-at w ↦ sym (ap (found (span_from _ _)) (span_cut_at _ _ _ _ _ (omega arith) (omega arith)))
-      | then-s-at-via-else-s-at+then-s-at-2 w ↦ sym (ap (found (span_from _ _)) (span_cut_at _ _ _ _ _ (omega arith) (omega arith)))
+pub returns-then-at-s : goal.returns-then-at-s
+returns-then-at-s c =
+    rw (c.ended.ensures.0, c.ended.ensures.1)
+    (elim c.then-at-s.branch [
+      | then-at-s-via-then-at-s w ↦ sym (ap (found (span_from _ _)) (span_cut_at _ _ _ _ _ (omega arith) (omega arith)))
+      | then-at-s-via-else-at-s+then-len-s w ↦ sym (ap (found (span_from _ _)) (span_cut_at _ _ _ _ _ (omega arith) (omega arith)))
     ])
 
 pub returns-then-limit-len : goal.returns-then-limit-len
-returns-then-limit-len c = rw c.at-then-limit-len.ensures (sym (ap (found (span_from _ _)) (span_long _ _ _ _ _ (omega arith) (omega arith))))
+returns-then-limit-len c = sym (ap (found (span_from _ _)) (span_long _ _ _ _ _ (omega arith) (omega arith)))
 
 pub returns : goal.returns
 returns c = sym (ap (found (span_from _ _)) (span_held _ _ _ _ _ (omega arith) (omega arith)))

@@ -1,0 +1,9 @@
+-- octets_for: a sum of 2^64 or more is refused; else what octets_for_after promises.
+use Rattle.std.proofs.Common.{sym, ap, ◌∙◌, arith}
+use borrow.Author.Tests.{ltb-false}
+use Rattle.ber_decode.specs.Told.{found, span_from}
+use Rattle.ber_decode.specs.Cases.{span_sum}
+use Rattle.ber_decode.proofs.Cursor.octets_for.Goals as goal
+
+pub returns-then-not-sum_fits : goal.returns-then-not-sum_fits
+returns-then-not-sum_fits c = rw c.at.ensures (sym (ap (found (span_from _ _)) (span_sum _ _ _ _ _ (omega arith) (ltb-false _ _ (sym c.sum_fits.ensures ∙ c.if-not-sum_fits.true)))))
