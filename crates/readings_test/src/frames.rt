@@ -5,7 +5,6 @@ use crate::Frame;
 use crate::draw::{below, draw};
 use decode_smv::samples::signed;
 use rt_services::{EthernetHeader, Presence, Refusal, SavAsdu, SavDataSetConfig, SavPdu, Vlan};
-use std::array;
 
 fn header(k: u32) -> EthernetHeader {
     let vlan = match below(k, 10, 2) {
@@ -79,17 +78,22 @@ fn sample(mask: u32, channels: u32, element: u32, shown: u32, hidden: u32) -> u3
 // The frame of description k, with shown samples of k and hidden ones of another stream; or the
 // writer's refusal.
 pub fn write(k: u32, channels: u32, mask: u32, hidden: u32) -> Result<Frame, Refusal> {
-    let samples: [u32; SavDataSetConfig::MAX_SAMPLES] = array::from_fn(|i| sample(
-        mask, channels, i as u32, k, hidden,
-    ));
+    // One loop over both arrays: an array of the drawn numbers, mapped twice, costs two thirds of a frame more.
+    let mut counts = [0; SavDataSetConfig::MAX_SAMPLES];
+    let mut words = [0; SavDataSetConfig::MAX_SAMPLES];
+    for (i, (count, word)) in counts.iter_mut().zip(words.iter_mut()).enumerate() {
+        let x = sample(mask, channels, i as u32, k, hidden);
+        *count = signed(x);
+        *word = x % SavAsdu::QUALITY_LIMIT;
+    }
     let mut octets = [0; SavPdu::MAX_FRAME];
     let size = encode_smv::encode_smv(
         header(k),
         pdu(k, channels),
         channels as usize,
         below(k, 33, 2) == 1,
-        &samples.map(signed),
-        &samples.map(|x| x % SavAsdu::QUALITY_LIMIT),
+        &counts,
+        &words,
         &mut octets,
     )?;
     Ok(Frame { octets, size })
