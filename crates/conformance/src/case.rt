@@ -1,6 +1,6 @@
 // What the lines of a case give.
-// A line that isn't understood may have put octets or items before its fault, as the format says, so each is
-// put into an array of the most that there can be, with its length beside it.
+// A line that isn't understood may have put octets or items before its fault, so each is put into an array of
+// the most that there can be, with its length beside it.
 use crate::description;
 use crate::description::Description;
 use crate::line::{Line, LineError, count, decimal, float};
@@ -15,7 +15,7 @@ pub const LONGEST: usize = 4096;
 
 // How many elements the arrays have that a call is lent, as the lines say: the buffer of a writer; counts
 // or values, and quality words; the numbers and the octets of the description. Where that is more than there
-// can be, all are lent.
+// can be, all are lent, but of a writer's numbers none past `description::SPACE`.
 #[derive(Clone, Copy)]
 pub struct Room {
     pub buffer: usize,

@@ -105,8 +105,12 @@ impl<'a> Iterator for Records<'a> {
 
     ghost remaining = { λ s. at_most s.left };
 
+    // Of the records past the octets, which are zeros alike, only the first.
     fn next(&mut self) -> Option<Record<'a>> {
         self.left = self.left.checked_sub(1)?;
+        if self.octets.is_empty() {
+            self.left = 0;
+        }
         Record::of(&mut self.octets)
     }
 }

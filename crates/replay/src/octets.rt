@@ -64,7 +64,11 @@ impl<'a> Octets<'a> {
 
     // The next N octets.
     pub fn array<const N: usize>(&mut self) -> Option<[u8; N]> {
-        Some(held(self.take(N)?))
+        let Some((front, rest)) = self.rest.split_first_chunk::<N>() else {
+            return Some(held(self.take(N)?));
+        };
+        self.rest = rest;
+        Some(*front)
     }
 
     // The next field.
@@ -105,6 +109,10 @@ impl<'a> Octets<'a> {
     pub fn has<T: Field + PartialEq + Drop>(&mut self, field: T) -> Option<()> {
         let next: T = self.next()?;
         (next == field).then_some(())
+    }
+
+    pub fn is_empty(&self) -> bool {
+        self.rest.is_empty()
     }
 
     // Whether none is left.
