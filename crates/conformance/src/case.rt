@@ -1,6 +1,8 @@
 // What the lines of a case give.
 // A line that isn't understood may have put octets or items before its fault, so each is put into an array of
 // the most that there can be, with its length beside it.
+ghost use Rattle.std.specs.Prelude.{◌≤◌, IfOk};
+
 use crate::description;
 use crate::description::Description;
 use crate::line::{Line, LineError, count, decimal, float};
@@ -209,7 +211,9 @@ fn two_numbers(mut line: Line) -> Result<(usize, usize), LineError> {
 }
 
 // Whether a number that was taken is one that there can be.
-fn at_most(most: usize, n: usize) -> Result<(), LineError> {
+fn at_most(most: usize, n: usize) -> Result<(), LineError>
+    ensures { IfOk result (λ _. n ≤ most) }
+{
     if most < n {
         return Err(LineError::NotUnderstood);
     }

@@ -1,4 +1,7 @@
 // A line, its words, and what they stand for.
+ghost use Rattle.std.specs.Prelude.{◌<◌};
+ghost use Rattle.std.specs.Option.{IfSome};
+
 use crate::case::LONGEST;
 use std::io;
 use std::num::f32_from_bits_with_nan;
@@ -118,7 +121,9 @@ impl<'a> Line<'a> {
 }
 
 // The value of a hexadecimal digit, none of them a capital letter.
-fn digit(c: u8) -> Option<u8> {
+fn digit(c: u8) -> Option<u8>
+    ensures { IfSome result (λ d. d < 16) }
+{
     match c {
         b'0'..=b'9' => Some(c - b'0'),
         b'a'..=b'f' => Some(c - b'a' + 10),

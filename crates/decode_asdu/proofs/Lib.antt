@@ -1,2 +1,3 @@
 mod Bounds
 mod Parts
+mod Numbered
