@@ -2,6 +2,8 @@
 // A line that isn't understood may have put octets or items before its fault, so each is put into an array of
 // the most that there can be, with its length beside it.
 ghost use Rattle.std.specs.Prelude.{◌≤◌, IfOk};
+ghost use Rattle.conformance.specs.declared.case.TheConstants.{LIST, LONGEST};
+ghost use Rattle.conformance.specs.declared.description.TheConstants.{NUMBERS, OCTETS};
 
 use crate::description;
 use crate::description::Description;
@@ -15,9 +17,10 @@ pub const LIST: usize = 256;
 // Octets that are read or written, and that a lent buffer can have.
 pub const LONGEST: usize = 4096;
 
-// How many elements the arrays have that a call is lent, as the lines say: the buffer of a writer; counts
-// or values, and quality words; the numbers and the octets of the description. Where that is more than there
-// can be, all are lent, but of a writer's numbers none past `description::SPACE`.
+// How many elements the arrays have that a call is lent: the buffer of a writer; counts or values, and
+// quality words; the numbers and the octets of the description; the numbers of the description where it is
+// written. Where a line that isn't understood says more than there can be, all are lent, but a writer no
+// numbers where it says more than `description::SPACE`.
 #[derive(Clone, Copy)]
 pub struct Room {
     pub buffer: usize,
@@ -25,6 +28,13 @@ pub struct Room {
     pub qualities: usize,
     pub numbers: usize,
     pub octets: usize,
+    pub written: usize,
+    ghost buffer_fits: { buffer ≤ LONGEST },
+    ghost counts_fit: { counts ≤ LIST },
+    ghost qualities_fit: { qualities ≤ LIST },
+    ghost numbers_fit: { numbers ≤ NUMBERS },
+    ghost octets_fit: { octets ≤ OCTETS },
+    ghost written_fits: { written ≤ NUMBERS },
 }
 
 #[derive(Clone, Copy)]
@@ -62,6 +72,7 @@ impl Case {
             qualities: SavDataSetConfig::MAX_SAMPLES,
             numbers: description::NUMBERS,
             octets: description::OCTETS,
+            written: description::NUMBERS,
         };
         case
     }
@@ -75,6 +86,7 @@ impl Case {
                 qualities: 0,
                 numbers: 0,
                 octets: 0,
+                written: 0,
             },
             channels: 0,
             octets: [0; LONGEST],
@@ -154,18 +166,29 @@ impl Case {
             }
             "channels" => self.channels = number(line)?,
             "buffer" => {
-                self.room.buffer = number(line)?;
-                at_most(LONGEST, self.room.buffer)?;
+                let n = number(line)?;
+                self.room.buffer = n.min(LONGEST);
+                at_most(LONGEST, n)?;
             }
             "room" => {
-                (self.room.counts, self.room.qualities) = two_numbers(line)?;
-                at_most(LIST, self.room.counts)?;
-                at_most(LIST, self.room.qualities)?;
+                let (counts, qualities) = two_numbers(line)?;
+                self.room.counts = counts.min(LIST);
+                self.room.qualities = qualities.min(LIST);
+                at_most(LIST, counts)?;
+                at_most(LIST, qualities)?;
             }
             "flat" => {
-                (self.room.numbers, self.room.octets) = two_numbers(line)?;
-                at_most(description::NUMBERS, self.room.numbers)?;
-                at_most(description::OCTETS, self.room.octets)?;
+                let (numbers, octets) = two_numbers(line)?;
+                let lent = numbers.min(description::NUMBERS);
+                self.room.numbers = lent;
+                self.room.octets = octets.min(description::OCTETS);
+                self.room.written = if description::SPACE < numbers {
+                    0
+                } else {
+                    lent
+                };
+                at_most(description::NUMBERS, numbers)?;
+                at_most(description::OCTETS, octets)?;
             }
             _ => return Ok(false),
         }

@@ -14,13 +14,12 @@ pub const NUMBERS: usize = layout::HEAD_NUMBERS + MOST * ASDU_NUMBERS;
 
 pub const OCTETS: usize = layout::HEAD_OCTETS + MOST * ASDU_OCTETS;
 
-// Numbers that a writer can be lent: those of a description, and zeros. It is lent none where a line that
-// isn't understood says more.
+// A writer is lent no numbers where a line that isn't understood says more than so many.
 pub const SPACE: usize = 2304;
 
 #[derive(Clone, Copy)]
 pub struct Description {
-    pub numbers: [u32; SPACE],
+    pub numbers: [u32; NUMBERS],
     pub octets: [u8; OCTETS],
     pub asdus: usize,
     ghost fit: { asdus ≤ MOST },
@@ -30,7 +29,7 @@ impl Description {
     // Nothing is given.
     pub fn empty() -> Description {
         Description {
-            numbers: [0; SPACE],
+            numbers: [0; NUMBERS],
             octets: [0; OCTETS],
             asdus: 0,
         }

@@ -47,7 +47,7 @@ impl Calculation {
 // The values of counts, into as many elements as the case lends.
 pub fn values_of(no_asdu: u16, case: &Case) -> Outcome {
     let mut values = [f32::LENT; LIST];
-    let out = &mut values[..case.room.counts.min(LIST)];
+    let out = &mut values[..case.room.counts];
     let answer = answered(|size| {
         hopsickle::hopsickle_values(case.scales(), no_asdu, case.counts(), out, size)
     });

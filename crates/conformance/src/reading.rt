@@ -48,10 +48,10 @@ impl Reading {
         let outcome = call(
             self,
             case,
-            &mut lent.numbers[..room.numbers.min(description::NUMBERS)],
-            &mut lent.octets[..room.octets.min(description::OCTETS)],
-            &mut lent.counts[..room.counts.min(LIST)],
-            &mut lent.qualities[..room.qualities.min(LIST)],
+            &mut lent.numbers[..room.numbers],
+            &mut lent.octets[..room.octets],
+            &mut lent.counts[..room.counts],
+            &mut lent.qualities[..room.qualities],
         );
         let is_right = match outcome.answer {
             Ok(_) => lent.is_handed_back(self, case),

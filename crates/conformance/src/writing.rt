@@ -1,7 +1,6 @@
 // The calls that write octets into a lent buffer, and the size of a frame.
 use crate::answer::{Answer, Outcome, Value, answered};
 use crate::case::{Case, LONGEST};
-use crate::description::OCTETS;
 use crate::lent::{Element, is_filled};
 use crate::line::{Line, LineError, decimal, is_fixed, tag};
 
@@ -42,7 +41,7 @@ impl Writing {
     // Writes into a buffer of so many octets as the case lends.
     pub fn make(&self, case: &Case, out: &mut [u8; LONGEST]) -> Outcome {
         out.fill(u8::LENT);
-        let answer = self.call(case, &mut out[..case.room.buffer.min(LONGEST)]);
+        let answer = self.call(case, &mut out[..case.room.buffer]);
         let is_right = match answer {
             Ok(_) => is_filled(out, case.octets()),
             Err(_) => is_filled(out, &[]),
@@ -71,12 +70,11 @@ impl Writing {
 
 // The numbers, and the octets, of the description, as many as the case lends.
 fn numbers(case: &Case) -> &[u32] {
-    let numbers = case.description.numbers.get(..case.room.numbers);
-    numbers.unwrap_or_default()
+    &case.description.numbers[..case.room.written]
 }
 
 fn description_octets(case: &Case) -> &[u8] {
-    &case.description.octets[..case.room.octets.min(OCTETS)]
+    &case.description.octets[..case.room.octets]
 }
 
 // A frame with the counts. Each call has parameters of its own, as in the C interface, so each has
